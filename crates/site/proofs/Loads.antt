@@ -1,0 +1,118 @@
+-- From the trailer to the whole file.
+use mathlib.Core.Path.{_≡_, refl, sym, ap, subst, _∙_}
+use mathlib.Core.Bool.{Bool, true, false, _&&_}
+use mathlib.Core.List.{List, [], _∷_, _++_}
+use Prim.Native.Nat.{ℕ, _+_, _-_, _*_, _≤_, _<_, _^_}
+use native.Mathlib.Omega.{arith}
+use lib.ListN.{length}
+use Rattle.std.specs.Results.{isOk}
+use Rattle.std.specs.declared.option.Option.{Option}
+use Rattle.std.specs.declared.option.Option.the-variants.{Some, None}
+use Rattle.std.specs.declared.result.Result.{Result}
+use Rattle.std.specs.declared.result.Result.the-variants.{Ok, Err}
+use Rattle.std.proofs.shelf.Tests.{and-parts, eqb-true, leb-true}
+use Rattle.terrain.specs.Ask.{AllYes, FirstNo, firstNo, refusalIn, verdict}
+use Rattle.terrain.specs.Format.{Format}
+use Rattle.terrain.specs.Trailer.{countOf, distanceOf, formatOf, nameOf, noteLength, tailOf, trailerOf, trailerQuestions}
+use Rattle.terrain.specs.declared.refusal.Refusal.{Refusal}
+use Rattle.terrain.specs.declared.trailer.EditionName.{EditionName}
+use Rattle.terrain.specs.declared.trailer.Trailer.{Trailer}
+use Rattle.terrain.proofs.Asked.{all-passed, all-yes, first-no, some-stopped}
+use Rattle.water.specs.Formed.{Formed}
+use Rattle.water.specs.Tree.{dried}
+use Rattle.site.specs.Fill.{Fits, Spelled}
+use Rattle.site.specs.Held.{tabled}
+use Rattle.site.specs.Loaded.{TableRead}
+use Rattle.site.specs.Questions.{questions, questionsFrom}
+use Rattle.site.specs.Spell.{countIn, formatIn, startOf, treeIn, treeOf}
+use Rattle.site.specs.declared.table.Table.{Table}
+use Rattle.site.proofs.Taken.{verdict-err, verdict-ok}
+
+-- A trailer whose questions are all answered yes names records that lie in the file.
+pub trailer-fits : (name : EditionName) (file : List ℕ) → length file < 2 ^ 64 → nameOf (tailOf file) ≡ name →
+    firstNo (trailerQuestions (length file) (tailOf file)) ≡ None → Fits (formatOf name) (countOf (formatOf name) (tailOf file)) file
+trailer-fits name file bound ne h =
+    subst (λ (k : EditionName). Fits (formatOf k) (countOf (formatOf k) (tailOf file)) file) ne
+    (let e : Format = formatOf (nameOf (tailOf file)) in
+      let tail : List ℕ = tailOf file in
+      let y : AllYes (trailerQuestions (length file) tail) = all-yes (trailerQuestions (length file) tail) h in
+      let twelve : 12 ≤ length file = leb-true _ _ (y .0) in
+      let count = and-parts _ _ (y .1 .1 .1 .0) in
+      let distance = and-parts _ _ (y .1 .1 .1 .1 .0) in
+      let d : distanceOf e tail ≡ countOf e tail * e .recordLen = eqb-true _ _ (distance .0) in
+      let w : distanceOf e tail ≤ length file - 12 = leb-true _ _ (distance .1) in
+      let m : countOf e tail ≤ 1023 = leb-true _ _ (count .1) in
+      record { most = m; long = omega arith; bound = bound })
+
+-- The trailer passes, and the records give what they give.
+pub whole-file : (name : EditionName) (n : ℕ) (file : List ℕ) (r : Result Table Refusal) → nameOf (tailOf file) ≡ name → n ≡ countOf (formatOf name) (tailOf file) →
+    firstNo (trailerQuestions (length file) (tailOf file)) ≡ None → Spelled (formatOf name) n file r → TableRead file r
+whole-file name n file r ne ce h s =
+    let s₁ : Spelled (formatOf name) (countOf (formatOf name) (tailOf file)) file r = subst (λ (k : ℕ). Spelled (formatOf name) k file r) ce s in
+    let s₂ : Spelled (formatIn file) (countIn file) file r =
+        subst (λ (k : EditionName). Spelled (formatOf k) (countOf (formatOf k) (tailOf file)) file r) (sym ne) s₁ in
+    let q : firstNo (questions file) ≡ firstNo (questionsFrom (formatIn file) file (countIn file) 0) =
+        all-passed (trailerQuestions (length file) (tailOf file)) (questionsFrom (formatIn file) file (countIn file) 0) h in
+    record {
+      answer = s₂ .answer ∙ ap (λ (o : Option Refusal). verdict o (tabled (treeIn file))) (sym q);
+      formed = s₂ .formed;
+      dry = s₂ .dry
+    }
+
+-- A trailer that is refused is the file's refusal.
+pub trailer-refused : (file : List ℕ) (r : Result Table Refusal) (x : Refusal) → r ≡ Err x →
+    firstNo (trailerQuestions (length file) (tailOf file)) ≡ Some x → TableRead file r
+trailer-refused file r x re h =
+    let q : firstNo (questions file) ≡ Some x =
+        some-stopped (trailerQuestions (length file) (tailOf file)) (questionsFrom (formatIn file) file (countIn file) 0) x h in
+    record {
+      answer = re ∙ ap (λ (o : Option Refusal). verdict o (tabled (treeIn file))) (sym q);
+      formed = λ k. let f : isOk r ≡ false = ap isOk re in let z : _≡_ {A = ℕ} 0 1 = cc in absurd (omega arith);
+      dry = λ k. let f : isOk r ≡ false = ap isOk re in let z : _≡_ {A = ℕ} 0 1 = cc in absurd (omega arith)
+    }
+
+-- What an accepted trailer tells, of the file that the reader was handed.
+pub trailer-read : (file₀ file : List ℕ) (t : Trailer) → file₀ ≡ file →
+    Ok t ≡ verdict (firstNo (trailerQuestions (length file₀) (tailOf file₀))) (trailerOf (length file₀) (tailOf file₀)) →
+    (firstNo (trailerQuestions (length file) (tailOf file)) ≡ None) × (t ≡ trailerOf (length file) (tailOf file))
+trailer-read file₀ file t fe h =
+    verdict-ok (firstNo (trailerQuestions (length file) (tailOf file))) t (trailerOf (length file) (tailOf file))
+    (subst (λ (f : List ℕ). Ok t ≡ verdict (firstNo (trailerQuestions (length f) (tailOf f))) (trailerOf (length f) (tailOf f))) fe h)
+
+-- What the records are read with, once the trailer is accepted.
+pub record Ready (name : EditionName) (file : List ℕ) (t : Trailer) : Type 0 where
+  pub named : nameOf (tailOf file) ≡ name
+  pub counted : t .count ≡ countOf (formatOf name) (tailOf file)
+  pub noted : t .note ≡ noteLength (formatOf name) (length file) (tailOf file)
+  pub fits : Fits (formatOf name) (t .count) file
+
+pub ready : (name : EditionName) (file : List ℕ) (t : Trailer) → length file < 2 ^ 64 → firstNo (trailerQuestions (length file) (tailOf file)) ≡ None →
+    t ≡ trailerOf (length file) (tailOf file) → t .edition ≡ name → Ready name file t
+ready name file t bound h te is =
+    let ne : nameOf (tailOf file) ≡ name = sym (ap (λ (x : Trailer). x .edition) te) ∙ is in
+    let c : t .count ≡ countOf (formatOf name) (tailOf file) =
+        ap (λ (x : Trailer). x .count) te ∙ ap (λ (k : EditionName). countOf (formatOf k) (tailOf file)) ne in
+    let n : t .note ≡ noteLength (formatOf name) (length file) (tailOf file) =
+        ap (λ (x : Trailer). x .note) te ∙ ap (λ (k : EditionName). noteLength (formatOf k) (length file) (tailOf file)) ne in
+    record {
+      named = ne;
+      counted = c;
+      noted = n;
+      fits = subst (λ (k : ℕ). Fits (formatOf name) k file) (sym c) (trailer-fits name file bound ne h)
+    }
+
+-- A table that was read is the file's tree, and every question was answered yes.
+pub table-read : (file : List ℕ) (table : Table) → TableRead file (Ok table) → (firstNo (questions file) ≡ None) × (table ≡ tabled (treeIn file))
+table-read file table t = verdict-ok (firstNo (questions file)) table (tabled (treeIn file)) (t .answer)
+
+pub table-refused : (file : List ℕ) (x : Refusal) → TableRead file (Err x) → firstNo (questions file) ≡ Some x
+table-refused file x t = verdict-err (firstNo (questions file)) x (tabled (treeIn file)) (t .answer)
+
+refusal-in : (o : Option Refusal) → refusalIn {A = Unit {0}} (verdict o tt) ≡ o
+refusal-in None = refl
+refusal-in (Some x) = refl
+
+-- The answer is the first question answered no, in words.
+pub answer-in-words : (file : List ℕ) (r : Result (Unit {0}) Refusal) → r ≡ verdict (firstNo (questions file)) tt → FirstNo (questions file) (refusalIn r)
+answer-in-words file r h =
+    subst (FirstNo (questions file)) (sym (ap refusalIn h ∙ refusal-in (firstNo (questions file)))) (first-no (questions file))

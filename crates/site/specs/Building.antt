@@ -1,0 +1,36 @@
+-- What the loader has built between two records: the table and the summaries of the subtrees w that wait.
+use mathlib.Core.Path.{_≡_}
+use mathlib.Core.List.{List, [], _∷_, _++_, map}
+use Prim.Native.Nat.{ℕ, _+_, _-_}
+use lib.ListN.{replicate}
+use Rattle.water.specs.Tree.{Tree, first, size, outlets, dried}
+use Rattle.water.specs.Formed.{Numbered, Shaped}
+use Rattle.site.specs.Records.{records}
+use Rattle.site.specs.declared.node.Node.{Node}
+use Rattle.site.specs.declared.node.Node.the-variants.{Unused}
+use Rattle.site.specs.declared.node.Summary.{Summary}
+use Rattle.site.specs.declared.table.Table.{Table}
+
+-- The records of the subtrees that wait, the oldest subtree first.
+abbrev pub written : List Tree → List Node
+written [] = []
+written (t ∷ w) = written w ++ records t
+
+-- The subtrees that wait are numbered one after the other up to n.
+abbrev pub Lined : ℕ → List Tree → Type 0
+Lined n [] = n ≡ 0
+Lined n (t ∷ w) = Numbered (first t) t × (n ≡ first t + size t) × Lined (first t) w
+
+-- Each of them is shaped as a site's records are, and dry.
+abbrev pub Ready : List Tree → Type 0
+Ready [] = Unit {0}
+Ready (t ∷ w) = Shaped t × (dried t ≡ t) × Ready w
+
+abbrev pub summaryOf : Tree → Summary
+summaryOf t = record { first = first t; outlets = outlets t }
+
+pub record Building (table : Table) (summaries : List Summary) (w : List Tree) : Type 0 where
+  pub holds : table .nodes ≡ written w ++ replicate (1023 - table .count) Unused
+  pub lined : Lined (table .count) w
+  pub ready : Ready w
+  pub kept : summaries ≡ map summaryOf w

@@ -1,0 +1,30 @@
+-- A site as an accepted file leaves it.
+use mathlib.Core.Path.{_≡_}
+use mathlib.Core.Bool.{true}
+use mathlib.Core.List.{List}
+use Prim.Native.Nat.{ℕ}
+use Rattle.std.specs.Results.{isOk}
+use Rattle.std.specs.declared.result.Result.{Result}
+use Rattle.terrain.specs.Ask.{firstNo, verdict}
+use Rattle.terrain.specs.declared.refusal.Refusal.{Refusal}
+use Rattle.water.specs.Tree.{dried}
+use Rattle.water.specs.Formed.{Formed}
+use Rattle.site.specs.Held.{tabled}
+use Rattle.site.specs.Questions.{questions}
+use Rattle.site.specs.Spell.{treeIn}
+use Rattle.site.specs.declared.site.Site.{Site}
+use Rattle.site.specs.declared.table.Table.{Table}
+
+-- The table holds exactly the tree that the records spell, dry, and all sums are zero.
+pub record Loaded (file : List ℕ) (site : Site) : Type 0 where
+  pub table : site .table ≡ tabled (treeIn file)
+  pub formed : Formed (treeIn file)
+  pub dry : dried (treeIn file) ≡ treeIn file
+  pub accepted : site .accepted ≡ 0
+  pub pumped : site .pumped ≡ 0
+
+-- What a whole file gives: its tree as a table if every question is answered yes, else the first answered no.
+pub record TableRead (file : List ℕ) (r : Result Table Refusal) : Type 0 where
+  pub answer : r ≡ verdict (firstNo (questions file)) (tabled (treeIn file))
+  pub formed : isOk r ≡ true → Formed (treeIn file)
+  pub dry : isOk r ≡ true → dried (treeIn file) ≡ treeIn file
