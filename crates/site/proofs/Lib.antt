@@ -1,7 +1,9 @@
 pub mod Built
 pub mod Ended
 pub mod Fresh
+pub mod Holding
 pub mod Loads
+pub mod Measured
 pub mod Sounds
 pub mod Taken
 pub mod Trees

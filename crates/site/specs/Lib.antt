@@ -3,6 +3,7 @@ pub mod Fill
 pub mod Held
 pub mod Loaded
 pub mod Loader
+pub mod Measures
 pub mod Questions
 pub mod Records
 pub mod Spell

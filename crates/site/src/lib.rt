@@ -2,6 +2,7 @@
 mod build;
 mod fill;
 mod grow;
+mod measure;
 mod node;
 mod site;
 mod table;

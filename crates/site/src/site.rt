@@ -16,3 +16,6 @@ mod fresh;
 
 // Loading a file.
 mod load;
+
+// Asking what it is made of.
+mod shape;

@@ -1,10 +1,10 @@
 // Filling a table, and looking into it.
-ghost use Prim.Native.Nat.{_+_, _<_};
+ghost use Prim.Native.Nat.{_+_, _<_, _≤_};
 ghost use Rattle.site.specs.Held.{tabled};
 ghost use Rattle.site.specs.Loader.{leafAmong};
 ghost use Rattle.water.specs.Tree.{outlet};
 ghost use Rattle.site.specs.declared.node.Node.the-variants.{Unused};
-ghost use lib.ListN.{replicate, set};
+ghost use lib.ListN.{replicate, set, take};
 ghost use mathlib.Core.Path.{_≡_};
 use super::super::node::Node;
 use super::PLACES;
@@ -45,6 +45,14 @@ impl Table {
         ensures { λ r. ⌜ r ≡ now (self .entry) .count ⌝ }
     {
         self.count
+    }
+
+    // The records that are used.
+    pub(crate) fn used(&self) -> &[Node]
+        requires { ⌜ now self .count ≤ 1023 ⌝ }
+        ensures { λ r. ⌜ now r ≡ take (now (self .entry) .count) (now (self .entry) .nodes) ⌝ }
+    {
+        &self.nodes[0..self.count]
     }
 
     // Is record k, of those from `from` up to before `to`, a leaf?

@@ -1,0 +1,9 @@
+use mathlib.Core.Path.{_∙_}
+use Rattle.site.proofs.Holding.{held-few, used-is}
+use Rattle.site.proofs.site.Site.records.Needs as need
+
+pub used-requires : need.used-requires
+used-requires c κs = held-few (c .args .self .now .table) (c .args .self .now .sound)
+
+pub returns : need.returns
+returns c = λ t e. c .used .ensures ∙ used-is (c .args .self .now .table) t e
