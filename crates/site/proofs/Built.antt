@@ -63,12 +63,12 @@ sides-seen t rec (r ∷ l ∷ w) e h few =
     let pre : length (written w) ≡ first l = length-written w (first l) (h .2 .2) in
     let cut : first r ≡ first l + size l = h .2 .1 in
     let both : length (written w ++ records l) ≡ first r =
-        length-append (written w) (records l) ∙ omega (arith, pre, length-records l, cut) in
+    length-append (written w) (records l) ∙ omega (arith, pre, length-records l, cut) in
     let p : leafAmong (t .nodes) (rec .left) (first l) (first r) ≡ hasLeaf (rec .left) l =
-        among (t .nodes) (written w) (records r ++ U) l (rec .left) (first l) (first r)
-        (e ∙ append-assoc (written w ++ records l) (records r) U) pre (h .2 .0) cut (omega (arith, h .1)) in
+    among (t .nodes) (written w) (records r ++ U) l (rec .left) (first l) (first r)
+    (e ∙ append-assoc (written w ++ records l) (records r) U) pre (h .2 .0) cut (omega (arith, h .1)) in
     let q : leafAmong (t .nodes) (rec .right) (first r) n ≡ hasLeaf (rec .right) r =
-        among (t .nodes) (written w ++ records l) U r (rec .right) (first r) n e both (h .0) (h .1) few in
+    among (t .nodes) (written w ++ records l) U r (rec .right) (first r) n e both (h .0) (h .1) few in
     ap (λ (x : Bool). x && leafAmong (t .nodes) (rec .right) (first r) n) p ∙ ap (λ (x : Bool). hasLeaf (rec .left) l && x) q
 
 landed-seen : (k : Kind) (t : Table) (rec : Record) (w : List Tree) → t .nodes ≡ tableWith w (t .count) → Lined (t .count) w → t .count ≤ 1023 →
@@ -122,11 +122,11 @@ built-leaf : (t : Table) (w : List Tree) (leaf : Tree) (x : Node) → t .nodes �
 built-leaf t w leaf x e h ready few rs f one num shaped dry =
     record {
       holds =
-        ap (λ (ns : List Node). set ns (t .count) x) e ∙ put-next (written w) (t .count) x (length-written w (t .count) h) few
-        ∙ ap (λ (ns : List Node). (written w ++ ns) ++ replicate (1023 - (t .count + 1)) Unused) (sym rs);
+          ap (λ (ns : List Node). set ns (t .count) x) e ∙ put-next (written w) (t .count) x (length-written w (t .count) h) few
+          ∙ ap (λ (ns : List Node). (written w ++ ns) ++ replicate (1023 - (t .count + 1)) Unused) (sym rs);
       lined = (subst (λ (b : ℕ). Numbered b leaf) (sym f) num, omega (arith, f, one), subst (λ (b : ℕ). Lined b w) (sym f) h);
       ready = (shaped, dry, ready);
-      kept = refl
+      kept = refl;
     }
 
 -- A merge is built.
@@ -142,16 +142,17 @@ built-merge t rec (r ∷ l ∷ w) e h ready few two lands empty own =
     let both : (hasLeaf (rec .left) l ≡ true) × (hasLeaf (rec .right) r ≡ true) = and-parts _ _ lands in
     record {
       holds =
-        ap (λ (ns : List Node). set ns n x) e ∙ put-next (written (r ∷ l ∷ w)) n x (length-written (r ∷ l ∷ w) n h) few
-        ∙ ap (λ (ns : List Node). ns ++ U)
+          ap (λ (ns : List Node). set ns n x) e ∙ put-next (written (r ∷ l ∷ w)) n x (length-written (r ∷ l ∷ w) n h) few
+          ∙ ap (λ (ns : List Node). ns ++ U)
           (ap (λ (ns : List Node). ns ++ x ∷ []) (append-assoc (written w) (records l) (records r))
-            ∙ append-assoc (written w) (records l ++ records r) (x ∷ []));
+          ∙ append-assoc (written w) (records l ++ records r) (x ∷ []));
       lined = ((h .2 .0, h .2 .1, h .0, h .1), omega (arith, h .1, h .2 .1), h .2 .2);
-      ready =
-        ( (ready .2 .0, ready .0, own, both .0, both .1, λ opens. let o : eqb (rec .own) 0 ≡ true = grind (arith, tells) in eqb-true _ _ o)
-        , dry-merge n (rec .own) (first r) (rec .left) (rec .right) l r (ready .2 .1) (ready .1)
-        , ready .2 .2);
-      kept = ap (λ (k : ℕ). record { first = first l; outlets = k } ∷ map summaryOf w) (outlets-sum r l w n h (omega arith))
+      ready = (
+        (ready .2 .0, ready .0, own, both .0, both .1, λ opens. let o : eqb (rec .own) 0 ≡ true = grind (arith, tells) in eqb-true _ _ o),
+        dry-merge n (rec .own) (first r) (rec .left) (rec .right) l r (ready .2 .1) (ready .1),
+        ready .2 .2,
+      );
+      kept = ap (λ (k : ℕ). record { first = first l; outlets = k } ∷ map summaryOf w) (outlets-sum r l w n h (omega arith));
     }
 
 -- One record more is built.

@@ -52,7 +52,7 @@ starts e n note file reader table stack f ne fe pe te ce se room =
     let p : placeAfter file 0 note ≡ 0 + note = cond-true _ _ _ (le-leb (0 + note) (length file) w) in
     let q : reader .place .at ≡ startOf e file 0 = omega (arith, pe, p, ne, first-start e file) in
     let b : Building table (stacked stack) [] =
-        record { holds = te ∙ ap (λ (k : ℕ). replicate (1023 - k) Unused) (sym ce); lined = ce; ready = tt; kept = se } in
+    record { holds = te ∙ ap (λ (k : ℕ). replicate (1023 - k) Unused) (sym ce); lined = ce; ready = tt; kept = se } in
     reached-with e n 0 file reader table stack fe q ce b (ap (λ (k : ℕ). firstNo (questionsFrom e file k 0)) (omega arith)) room
 
 -- The summaries answer the last questions.
@@ -89,8 +89,8 @@ one-tree table s (t ∷ []) b few one out =
     record {
       table = same-table table (tabled t) (b .holds ∙ ap (λ (k : ℕ). records t ++ replicate (1023 - k) Unused) c) c;
       formed =
-        record { numbered = subst (λ (k : ℕ). Numbered k t) zero-first (b .lined .0); shaped = b .ready .0; outlet = out; few = omega arith };
-      dry = b .ready .1
+          record { numbered = subst (λ (k : ℕ). Numbered k t) zero-first (b .lined .0); shaped = b .ready .0; outlet = out; few = omega arith };
+      dry = b .ready .1;
     }
 
 -- A question answered no is what the records give.
@@ -100,7 +100,7 @@ stopped-err e n file r x re q =
     record {
       answer = re ∙ ap (λ (o : Option Refusal). verdict o (tabled (treeOf e file n))) (sym q);
       formed = λ k. let f : isOk r ≡ false = ap isOk re in let z : _≡_ {A = ℕ} 0 1 = cc in absurd (omega arith);
-      dry = λ k. let f : isOk r ≡ false = ap isOk re in let z : _≡_ {A = ℕ} 0 1 = cc in absurd (omega arith)
+      dry = λ k. let f : isOk r ≡ false = ap isOk re in let z : _≡_ {A = ℕ} 0 1 = cc in absurd (omega arith);
     }
 
 pub ended-err : (e : Format) (n at : ℕ) (file : List ℕ) (s : List Summary) (x : Refusal) (r : Result Table Refusal) → at ≡ length file - 12 →
@@ -108,8 +108,8 @@ pub ended-err : (e : Format) (n at : ℕ) (file : List ℕ) (s : List Summary) (
     firstNo (endSeen at s) ≡ Some x → r ≡ Err x → Spelled e n file r
 ended-err e n at file s x r ae se asked o re =
     let q : firstNo (questionsFrom e file n 0) ≡ Some x =
-        last-asked e n file asked ∙ ap (λ (k : ℕ). firstNo (endQuestions k (waiting e file n))) (sym ae)
-        ∙ ap firstNo (sym (end-seen at (waiting e file n))) ∙ ap (λ (l : List Summary). firstNo (endSeen at l)) (sym se) ∙ o in
+    last-asked e n file asked ∙ ap (λ (k : ℕ). firstNo (endQuestions k (waiting e file n))) (sym ae)
+    ∙ ap firstNo (sym (end-seen at (waiting e file n))) ∙ ap (λ (l : List Summary). firstNo (endSeen at l)) (sym se) ∙ o in
     stopped-err e n file r x re q
 
 pub ended-ok : (e : Format) (n at : ℕ) (file : List ℕ) (s : List Summary) (table : Table) → at ≡ length file - 12 → n ≤ 1023 → table .count ≡ n →
@@ -118,16 +118,16 @@ pub ended-ok : (e : Format) (n at : ℕ) (file : List ℕ) (s : List Summary) (t
 ended-ok e n at file s table ae few ce b asked o =
     let w : List Tree = waiting e file n in
     let o′ : firstNo (endQuestions at w) ≡ None =
-        ap firstNo (sym (end-seen at w)) ∙ ap (λ (l : List Summary). firstNo (endSeen at l)) (sym (b .kept)) ∙ o in
+    ap firstNo (sym (end-seen at w)) ∙ ap (λ (l : List Summary). firstNo (endSeen at l)) (sym (b .kept)) ∙ o in
     let y : (eqb (length w) 1 ≡ true) × (eqb (outletsOf w) 1 ≡ true) =
-        two-yes (eqb (length w) 1) (eqb (outletsOf w) 1) (Subtrees (length w) at) (Outlets (outletsOf w) at) o′ in
+    two-yes (eqb (length w) 1) (eqb (outletsOf w) 1) (Subtrees (length w) at) (Outlets (outletsOf w) at) o′ in
     let t : OneTree table w = one-tree table s w b (omega arith) (eqb-true _ _ (y .0)) (eqb-true _ _ (y .1)) in
     let q : firstNo (questionsFrom e file n 0) ≡ None =
-        last-asked e n file asked ∙ ap (λ (k : ℕ). firstNo (endQuestions k w)) (sym ae) ∙ o′ in
+    last-asked e n file asked ∙ ap (λ (k : ℕ). firstNo (endQuestions k w)) (sym ae) ∙ o′ in
     record {
       answer = ap Ok (t .table) ∙ ap (λ (x : Option Refusal). verdict x (tabled (treeOf e file n))) (sym q);
       formed = λ _. t .formed;
-      dry = λ _. t .dry
+      dry = λ _. t .dry;
     }
 
 -- What holds of the reader's file holds of the file that it was handed.

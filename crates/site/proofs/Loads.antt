@@ -34,15 +34,15 @@ pub trailer-fits : (name : EditionName) (file : List ℕ) → length file < 2 ^ 
 trailer-fits name file bound ne h =
     subst (λ (k : EditionName). Fits (formatOf k) (countOf (formatOf k) (tailOf file)) file) ne
     (let e : Format = formatOf (nameOf (tailOf file)) in
-      let tail : List ℕ = tailOf file in
-      let y : AllYes (trailerQuestions (length file) tail) = all-yes (trailerQuestions (length file) tail) h in
-      let twelve : 12 ≤ length file = leb-true _ _ (y .0) in
-      let count = and-parts _ _ (y .1 .1 .1 .0) in
-      let distance = and-parts _ _ (y .1 .1 .1 .1 .0) in
-      let d : distanceOf e tail ≡ countOf e tail * e .recordLen = eqb-true _ _ (distance .0) in
-      let w : distanceOf e tail ≤ length file - 12 = leb-true _ _ (distance .1) in
-      let m : countOf e tail ≤ 1023 = leb-true _ _ (count .1) in
-      record { most = m; long = omega arith; bound = bound })
+    let tail : List ℕ = tailOf file in
+    let y : AllYes (trailerQuestions (length file) tail) = all-yes (trailerQuestions (length file) tail) h in
+    let twelve : 12 ≤ length file = leb-true _ _ (y .0) in
+    let count = and-parts _ _ (y .1 .1 .1 .0) in
+    let distance = and-parts _ _ (y .1 .1 .1 .1 .0) in
+    let d : distanceOf e tail ≡ countOf e tail * e .recordLen = eqb-true _ _ (distance .0) in
+    let w : distanceOf e tail ≤ length file - 12 = leb-true _ _ (distance .1) in
+    let m : countOf e tail ≤ 1023 = leb-true _ _ (count .1) in
+    record { most = m; long = omega arith; bound = bound })
 
 -- The trailer passes, and the records give what they give.
 pub whole-file : (name : EditionName) (n : ℕ) (file : List ℕ) (r : Result Table Refusal) → nameOf (tailOf file) ≡ name → n ≡ countOf (formatOf name) (tailOf file) →
@@ -50,13 +50,13 @@ pub whole-file : (name : EditionName) (n : ℕ) (file : List ℕ) (r : Result Ta
 whole-file name n file r ne ce h s =
     let s₁ : Spelled (formatOf name) (countOf (formatOf name) (tailOf file)) file r = subst (λ (k : ℕ). Spelled (formatOf name) k file r) ce s in
     let s₂ : Spelled (formatIn file) (countIn file) file r =
-        subst (λ (k : EditionName). Spelled (formatOf k) (countOf (formatOf k) (tailOf file)) file r) (sym ne) s₁ in
+    subst (λ (k : EditionName). Spelled (formatOf k) (countOf (formatOf k) (tailOf file)) file r) (sym ne) s₁ in
     let q : firstNo (questions file) ≡ firstNo (questionsFrom (formatIn file) file (countIn file) 0) =
-        all-passed (trailerQuestions (length file) (tailOf file)) (questionsFrom (formatIn file) file (countIn file) 0) h in
+    all-passed (trailerQuestions (length file) (tailOf file)) (questionsFrom (formatIn file) file (countIn file) 0) h in
     record {
       answer = s₂ .answer ∙ ap (λ (o : Option Refusal). verdict o (tabled (treeIn file))) (sym q);
       formed = s₂ .formed;
-      dry = s₂ .dry
+      dry = s₂ .dry;
     }
 
 -- A trailer that is refused is the file's refusal.
@@ -64,11 +64,11 @@ pub trailer-refused : (file : List ℕ) (r : Result Table Refusal) (x : Refusal)
     firstNo (trailerQuestions (length file) (tailOf file)) ≡ Some x → TableRead file r
 trailer-refused file r x re h =
     let q : firstNo (questions file) ≡ Some x =
-        some-stopped (trailerQuestions (length file) (tailOf file)) (questionsFrom (formatIn file) file (countIn file) 0) x h in
+    some-stopped (trailerQuestions (length file) (tailOf file)) (questionsFrom (formatIn file) file (countIn file) 0) x h in
     record {
       answer = re ∙ ap (λ (o : Option Refusal). verdict o (tabled (treeIn file))) (sym q);
       formed = λ k. let f : isOk r ≡ false = ap isOk re in let z : _≡_ {A = ℕ} 0 1 = cc in absurd (omega arith);
-      dry = λ k. let f : isOk r ≡ false = ap isOk re in let z : _≡_ {A = ℕ} 0 1 = cc in absurd (omega arith)
+      dry = λ k. let f : isOk r ≡ false = ap isOk re in let z : _≡_ {A = ℕ} 0 1 = cc in absurd (omega arith);
     }
 
 -- What an accepted trailer tells, of the file that the reader was handed.
@@ -91,14 +91,14 @@ pub ready : (name : EditionName) (file : List ℕ) (t : Trailer) → length file
 ready name file t bound h te is =
     let ne : nameOf (tailOf file) ≡ name = sym (ap (λ (x : Trailer). x .edition) te) ∙ is in
     let c : t .count ≡ countOf (formatOf name) (tailOf file) =
-        ap (λ (x : Trailer). x .count) te ∙ ap (λ (k : EditionName). countOf (formatOf k) (tailOf file)) ne in
+    ap (λ (x : Trailer). x .count) te ∙ ap (λ (k : EditionName). countOf (formatOf k) (tailOf file)) ne in
     let n : t .note ≡ noteLength (formatOf name) (length file) (tailOf file) =
-        ap (λ (x : Trailer). x .note) te ∙ ap (λ (k : EditionName). noteLength (formatOf k) (length file) (tailOf file)) ne in
+    ap (λ (x : Trailer). x .note) te ∙ ap (λ (k : EditionName). noteLength (formatOf k) (length file) (tailOf file)) ne in
     record {
       named = ne;
       counted = c;
       noted = n;
-      fits = subst (λ (k : ℕ). Fits (formatOf name) k file) (sym c) (trailer-fits name file bound ne h)
+      fits = subst (λ (k : ℕ). Fits (formatOf name) k file) (sym c) (trailer-fits name file bound ne h);
     }
 
 -- A table that was read is the file's tree, and every question was answered yes.

@@ -57,7 +57,7 @@ heights-of (merge n o w c a b l r) s few =
     let p : heights (records l) s ≡ height l ∷ s = heights-of l s (omega arith) in
     let q : heights (records r) (height l ∷ s) ≡ height r ∷ height l ∷ s = heights-of r (height l ∷ s) (omega arith) in
     let u : heights (records l ++ records r) s ≡ height r ∷ height l ∷ s =
-        heights-append (records l) (records r) s ∙ ap (heights (records r)) p ∙ q in
+    heights-append (records l) (records r) s ∙ ap (heights (records r)) p ∙ q in
     let m : min (max (height l) (height r) + 1) 65535 ≡ max (height l) (height r) + 1 = omega (arith, height-few l, height-few r) in
     heights-append (records l ++ records r) (Merge o w c a b ∷ []) s ∙ ap joinedHeights u ∙ ap (λ (k : ℕ). k ∷ s) m
 

@@ -113,7 +113,7 @@ pub own-below : (e : Format) (rec : List ℕ) (at : ℕ) → firstNo (recordQues
 own-below e rec at h =
     fits-below (recordOf e rec .kind) (recordOf e rec .own)
     (last-yes (leb 1 (getD rec 0 0) && leb (getD rec 0 0) 3) (allZero (spareBytes rec)) (volumeFits (recordOf e rec .kind) (recordOf e rec .own))
-      (KindRefused (getD rec 0 0) at) (RecordZeros (spareBytes rec) (at + 1)) (Volume (recordOf e rec .own) (at + 8)) h)
+    (KindRefused (getD rec 0 0) at) (RecordZeros (spareBytes rec) (at + 1)) (Volume (recordOf e rec .own) (at + 8)) h)
 
 -- The facts after i records, over the file by itself.
 pub reached-with : (e : Format) (n i : ℕ) (file : List ℕ) (reader : Reader) (table : Table) (stack : Stack Summary) → now (reader .file) ≡ file →
@@ -125,7 +125,7 @@ reached-with e n i file reader table stack fe place count built asked room =
       count = count;
       built = subst (λ (f : List ℕ). Building table (stacked stack) (waiting e f i)) (sym fe) built;
       asked = subst (λ (f : List ℕ). firstNo (questionsFrom e f n 0) ≡ firstNo (questionsFrom e f (n - i) i)) (sym fe) asked;
-      room = room
+      room = room;
     }
 
 -- The loader's questions of record i are those of the file.
@@ -155,13 +155,13 @@ taken e n i at file said reader before after stack stack′ (Ok u) more few pe s
     let none′ : firstNo (treeQuestions said at w) ≡ None = ap firstNo (sym (same-questions before s w said at b (omega arith))) ∙ none in
     let own : said .own < 2 ^ 40 = subst (λ (x : Record). x .own < 2 ^ 40) (sym se) (own-below e (part file (startOf e file i) (e .recordLen)) (startOf e file i) re) in
     let g : grown (before .count) said w ≡ waiting e file (i + 1) =
-        ap (λ (k : ℕ). grown k said w) ce ∙ ap (λ (x : Record). grown i x w) se ∙ ap (waiting e file) (sym (add-one i)) in
+    ap (λ (k : ℕ). grown k said w) ce ∙ ap (λ (x : Record). grown i x w) se ∙ ap (waiting e file) (sym (add-one i)) in
     let b′ : Building (tableAfter before said s) (summariesAfter (said .kind) (before .count) s) (grown (before .count) said w) =
-        built-more before s w said at b (omega arith) own none′ in
+    built-more before s w said at b (omega arith) own none′ in
     let b₁ : Building after (summariesAfter (said .kind) (before .count) s) (grown (before .count) said w) =
-        subst (λ (x : Table). Building x (summariesAfter (said .kind) (before .count) s) (grown (before .count) said w)) (sym (ta refl)) b′ in
+    subst (λ (x : Table). Building x (summariesAfter (said .kind) (before .count) s) (grown (before .count) said w)) (sym (ta refl)) b′ in
     let b₂ : Building after (stacked stack′) (grown (before .count) said w) =
-        subst (λ (x : List Summary). Building after x (grown (before .count) said w)) (sym (sa refl)) b₁ in
+    subst (λ (x : List Summary). Building after x (grown (before .count) said w)) (sym (sa refl)) b₁ in
     let b₃ : Building after (stacked stack′) (waiting e file (i + 1)) = subst (λ (x : List Tree). Building after (stacked stack′) x) g b₂ in
     let c : after .count ≡ i + 1 = ap (λ (x : Table). x .count) (ta refl) ∙ ap (λ (k : ℕ). k + 1) ce in
     reached-with e n (i + 1) file reader after stack′ fe (place ∙ sym (next-start e file i)) c b₃

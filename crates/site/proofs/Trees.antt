@@ -67,10 +67,10 @@ of-both : (xs ys : List Node) (b j m : ℕ) (p q : Bool) → length xs ≡ m →
 of-both xs ys b j m p q e hp lo hi =
     ⊎-elim
     (λ h. let s : getD (xs ++ ys) j Unused ≡ getD xs j Unused = getD-append-left xs ys Unused j (omega arith) in
-        let f : q ≡ false = lo h in let t = ap leafNode s in grind (arith, tells))
+    let f : q ≡ false = lo h in let t = ap leafNode s in grind (arith, tells))
     (λ h. let s : getD (xs ++ ys) j Unused ≡ getD ys (j - m) Unused = getD-append-right xs ys m j Unused e h in
-        let f : q ≡ leafNode (getD ys (j - m) Unused) = hi h in
-        let g : leafNode (getD xs j Unused) ≡ false = past xs j (omega arith) in let t = ap leafNode s in grind (arith, tells))
+    let f : q ≡ leafNode (getD ys (j - m) Unused) = hi h in
+    let g : leafNode (getD xs j Unused) ≡ false = past xs j (omega arith) in let t = ap leafNode s in grind (arith, tells))
     (cases-lt j m)
 
 -- A leaf, counted from the first record, is a leaf among the records.
@@ -90,17 +90,17 @@ among nodes pre post t k b to e p h d few =
     ⊎-elim
     (λ lt. let f : hasLeaf k t ≡ false = none-below t b k h lt in grind (arith, tells))
     (λ ge.
-      let f : hasLeaf k t ≡ leafNode (getD (records t) (k - b) Unused) =
-          ap (λ (i : ℕ). hasLeaf i t) (omega arith) ∙ leaf-is t b (k - b) h in
-      let len : length (pre ++ records t) ≡ to = length-append pre (records t) ∙ omega (arith, length-records t) in
-      ⊎-elim
-      (λ lt.
-        let g : getD nodes k Unused ≡ getD (records t) (k - b) Unused =
-            ap (λ (ns : List Node). getD ns k Unused) e ∙ getD-append-left (pre ++ records t) post Unused k (omega arith)
-            ∙ getD-append-right pre (records t) b k Unused p ge in
-        let m = ap leafNode g in grind (arith, tells))
-      (λ out. let z : leafNode (getD (records t) (k - b) Unused) ≡ false = past (records t) (k - b) (omega (arith, length-records t)) in grind (arith, tells))
-      (cases-lt k to))
+    let f : hasLeaf k t ≡ leafNode (getD (records t) (k - b) Unused) =
+    ap (λ (i : ℕ). hasLeaf i t) (omega arith) ∙ leaf-is t b (k - b) h in
+    let len : length (pre ++ records t) ≡ to = length-append pre (records t) ∙ omega (arith, length-records t) in
+    ⊎-elim
+    (λ lt.
+    let g : getD nodes k Unused ≡ getD (records t) (k - b) Unused =
+    ap (λ (ns : List Node). getD ns k Unused) e ∙ getD-append-left (pre ++ records t) post Unused k (omega arith)
+    ∙ getD-append-right pre (records t) b k Unused p ge in
+    let m = ap leafNode g in grind (arith, tells))
+    (λ out. let z : leafNode (getD (records t) (k - b) Unused) ≡ false = past (records t) (k - b) (omega (arith, length-records t)) in grind (arith, tells))
+    (cases-lt k to))
     (cases-lt k b)
 
 -- A record is open when it has an outlet.

@@ -17,7 +17,11 @@ use terrain::Stack;
 use terrain::Trailer;
 
 /// Reads the note and the records that the trailer names; `end` is where the trailer starts.
-pub(crate) fn build<E: Edition>(reader: &mut Reader<'_>, trailer: &Trailer, end: usize) -> Result<Table, Refusal>
+pub(crate) fn build<E: Edition>(
+    reader: &mut Reader<'_>,
+    trailer: &Trailer,
+    end: usize,
+) -> Result<Table, Refusal>
     requires fits { ⌜ Fits (format (E·Edition .digit) (E·Edition .recordLen) (E·ByteOrder .number)) (now trailer .count) (now (now reader .file)) ⌝ }
     requires note { ⌜ now trailer .note ≡ noteLength (format (E·Edition .digit) (E·Edition .recordLen) (E·ByteOrder .number)) (length (now (now reader .file))) (tailOf (now (now reader .file))) ⌝ }
     requires start { ⌜ now reader .place .at ≡ 0 ⌝ }
@@ -25,7 +29,10 @@ pub(crate) fn build<E: Edition>(reader: &mut Reader<'_>, trailer: &Trailer, end:
     ensures { λ r. ⌜ Spelled (format (E·Edition .digit) (E·Edition .recordLen) (E·ByteOrder .number)) (now (trailer .entry) .count) (now (now (reader .entry) .file)) r ⌝ }
 {
     let _ = reader.note(trailer.note);
-    let mut slots = [Summary { first: 0, outlets: 0 }; PLACES];
+    let mut slots = [Summary {
+        first: 0,
+        outlets: 0,
+    }; PLACES];
     let mut waiting = Stack::new(&mut slots);
     let mut table = Table::unused();
     fill::<E>(reader, &mut table, &mut waiting, trailer.count)?;

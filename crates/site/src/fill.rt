@@ -12,7 +12,13 @@ use terrain::Refusal;
 use terrain::Stack;
 
 // Puts record i of `count` into the table, if its questions are all answered yes.
-fn take_record<E: Edition>(reader: &mut Reader<'_>, table: &mut Table, waiting: &mut Stack<'_, Summary>, i: u16, count: u16) -> Result<(), Refusal>
+fn take_record<E: Edition>(
+    reader: &mut Reader<'_>,
+    table: &mut Table,
+    waiting: &mut Stack<'_, Summary>,
+    i: u16,
+    count: u16,
+) -> Result<(), Refusal>
     requires fits { ⌜ Fits (format (E·Edition .digit) (E·Edition .recordLen) (E·ByteOrder .number)) count (now (now reader .file)) ⌝ }
     requires more { ⌜ i < count ⌝ }
     requires reached { ⌜ Reached (format (E·Edition .digit) (E·Edition .recordLen) (E·ByteOrder .number)) count i (now reader) (now table) (now waiting) ⌝ }
@@ -28,7 +34,12 @@ fn take_record<E: Edition>(reader: &mut Reader<'_>, table: &mut Table, waiting: 
 }
 
 /// Puts the next `count` records into the table, up to the first question answered no.
-pub(crate) fn fill<E: Edition>(reader: &mut Reader<'_>, table: &mut Table, waiting: &mut Stack<'_, Summary>, count: u16) -> Result<(), Refusal>
+pub(crate) fn fill<E: Edition>(
+    reader: &mut Reader<'_>,
+    table: &mut Table,
+    waiting: &mut Stack<'_, Summary>,
+    count: u16,
+) -> Result<(), Refusal>
     requires fits { ⌜ Fits (format (E·Edition .digit) (E·Edition .recordLen) (E·ByteOrder .number)) count (now (now reader .file)) ⌝ }
     requires start { ⌜ Reached (format (E·Edition .digit) (E·Edition .recordLen) (E·ByteOrder .number)) count 0 (now reader) (now table) (now waiting) ⌝ }
     ensures done { λ r. ⌜ Filled (format (E·Edition .digit) (E·Edition .recordLen) (E·ByteOrder .number)) count count (now (now (reader .entry) .file)) (now (reader .exit)) (now (table .exit)) (now (waiting .exit)) r ⌝ }

@@ -20,7 +20,12 @@ use terrain::Refusal;
 use terrain::Stack;
 
 // A merge joins the two subtrees that were finished last.
-fn merge(table: &mut Table, waiting: &mut Stack<'_, Summary>, said: &Record, at: usize) -> Result<(), Refusal>
+fn merge(
+    table: &mut Table,
+    waiting: &mut Stack<'_, Summary>,
+    said: &Record,
+    at: usize,
+) -> Result<(), Refusal>
     requires { ⌜ now said .kind ≡ Merge ⌝ }
     requires { ⌜ now table .count < 1023 ⌝ }
     requires { ⌜ at + 8 < 2 ^ 64 ⌝ }
@@ -39,13 +44,23 @@ fn merge(table: &mut Table, waiting: &mut Stack<'_, Summary>, said: &Record, at:
     let on_left = table.has_leaf(said.left, left.first, right.first as usize);
     let on_right = table.has_leaf(said.right, right.first, table.count());
     if !on_left || !on_right {
-        return Err(Refusal::Landings { left: said.left, right: said.right, at: at + 2 });
+        return Err(Refusal::Landings {
+            left: said.left,
+            right: said.right,
+            at: at + 2,
+        });
     }
     let outlets = left.outlets.saturating_add(right.outlets);
     if outlets > 0 && said.own != 0 {
-        return Err(Refusal::OpenVolume { volume: said.own, at: at + 8 });
+        return Err(Refusal::OpenVolume {
+            volume: said.own,
+            at: at + 8,
+        });
     }
-    let _ = waiting.push(Summary { first: left.first, outlets });
+    let _ = waiting.push(Summary {
+        first: left.first,
+        outlets,
+    });
     table.add(Node::Merge {
         own: said.own,
         water: 0,
@@ -62,13 +77,22 @@ fn leaf_landings(said: &Record, at: usize) -> Result<(), Refusal>
     ensures { λ r. ⌜ r ≡ verdict (firstNo (ask (eqb (now (said .entry) .left) 0 && eqb (now (said .entry) .right) 0) (Landings (now (said .entry) .left) (now (said .entry) .right) (at + 2)) ∷ [])) tt ⌝ }
 {
     if said.left != 0 || said.right != 0 {
-        return Err(Refusal::Landings { left: said.left, right: said.right, at: at + 2 });
+        return Err(Refusal::Landings {
+            left: said.left,
+            right: said.right,
+            at: at + 2,
+        });
     }
     Ok(())
 }
 
 /// Asks the tree's questions of a record that starts at `at`, and puts it into the table.
-pub(crate) fn grow(table: &mut Table, waiting: &mut Stack<'_, Summary>, said: &Record, at: usize) -> Result<(), Refusal>
+pub(crate) fn grow(
+    table: &mut Table,
+    waiting: &mut Stack<'_, Summary>,
+    said: &Record,
+    at: usize,
+) -> Result<(), Refusal>
     requires { ⌜ now table .count < 1023 ⌝ }
     requires { ⌜ length (stacked (now waiting)) < capacity (now waiting) ⌝ }
     requires { ⌜ at + 8 < 2 ^ 64 ⌝ }
@@ -83,7 +107,10 @@ pub(crate) fn grow(table: &mut Table, waiting: &mut Stack<'_, Summary>, said: &R
         Kind::Basin => {
             leaf_landings(said, at)?;
             let _ = waiting.push(Summary { first, outlets: 0 });
-            table.add(Node::Basin { own: said.own, water: 0 });
+            table.add(Node::Basin {
+                own: said.own,
+                water: 0,
+            });
             Ok(())
         }
         Kind::Outlet => {

@@ -9,7 +9,6 @@ mod table;
 
 ghost use Rattle.site.specs.Loaded.{Loaded};
 ghost use Rattle.site.specs.Questions.{questions};
-
 pub use node::Node;
 pub use site::Site;
 pub use table::Table;

@@ -5,9 +5,20 @@
 #[derive(Clone, Copy, PartialEq, Eq, Debug)]
 pub enum Node {
     Unused,
-    Basin { own: u64, water: u64 },
-    Outlet { water: u64 },
-    Merge { own: u64, water: u64, cut: u16, left: u16, right: u16 },
+    Basin {
+        own: u64,
+        water: u64,
+    },
+    Outlet {
+        water: u64,
+    },
+    Merge {
+        own: u64,
+        water: u64,
+        cut: u16,
+        left: u16,
+        right: u16,
+    },
 }
 
 /// What the loader keeps of a subtree that waits for its merge: its first record number, and its outlets.

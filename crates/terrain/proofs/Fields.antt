@@ -29,5 +29,5 @@ two-bytes xs i j e h =
     let a : drop i xs ≡ getD xs i 0 ∷ drop (i + 1) xs = drop-more xs i 0 (omega arith) in
     let b : drop j xs ≡ getD xs j 0 ∷ drop (j + 1) xs = drop-more xs j 0 h in
     let p : drop i xs ≡ getD xs i 0 ∷ getD xs j 0 ∷ drop (j + 1) xs =
-        a ∙ ap (λ (n : ℕ). getD xs i 0 ∷ drop n xs) (sym e) ∙ ap (λ (l : List ℕ). getD xs i 0 ∷ l) b in
+    a ∙ ap (λ (n : ℕ). getD xs i 0 ∷ drop n xs) (sym e) ∙ ap (λ (l : List ℕ). getD xs i 0 ∷ l) b in
     ap (take 2) p

@@ -29,7 +29,7 @@ pub signed-then : (n : ℕ) (tail : List ℕ) (x y : EditionName) (r : Result Tr
 signed-then n tail x y r h d f z e =
     let s : (signed (part tail 8 4) ≡ true) × (nameOf tail ≡ x) = found-edition _ _ _ f in
     let q : firstNo (trailerQuestions n tail) ≡ firstNo (countQuestions (formatOf (nameOf tail)) n tail) =
-        simp (le-leb 12 n h, s .0, z) in
+    simp (le-leb 12 n h, s .0, z) in
     e ∙ ap (λ (k : EditionName). verdict (firstNo (countQuestions (formatOf k) n tail)) (trailerAs x (formatOf k) n tail)) (sym d)
     ∙ ap (λ (k : EditionName). verdict (firstNo (countQuestions (formatOf k) n tail)) (trailerAs k (formatOf k) n tail)) (sym (s .1))
     ∙ ap (λ (o : Option Refusal). verdict o (trailerOf n tail)) (sym q)

@@ -34,7 +34,7 @@ recordOf e rec =
       kind = kindOf (getD rec 0 0);
       left = e .number (part rec 2 2);
       right = e .number (part rec 4 2);
-      own = e .number (drop 8 rec)
+      own = e .number (drop 8 rec);
     }
 
 -- The questions that a record's own bytes answer, numbers 7 to 9; `at` is where the record starts.

@@ -64,19 +64,33 @@ impl Record {
             unreachable()
         };
         let Some(kind) = kind_of(*kind_byte) else {
-            return Err(Refusal::Kind { kind: *kind_byte, at });
+            return Err(Refusal::Kind {
+                kind: *kind_byte,
+                at,
+            });
         };
         if *one != 0 || *six != 0 || *seven != 0 {
-            return Err(Refusal::RecordZeros { found: [*one, *six, *seven], at: at + 1 });
+            return Err(Refusal::RecordZeros {
+                found: [*one, *six, *seven],
+                at: at + 1,
+            });
         }
         let Some(own) = E::volume(rest) else {
             unreachable()
         };
         if !volume_fits(kind, own) {
-            return Err(Refusal::Volume { volume: own, at: at + 8 });
+            return Err(Refusal::Volume {
+                volume: own,
+                at: at + 8,
+            });
         }
         let left = E::read_u16([*l0, *l1]);
         let right = E::read_u16([*r0, *r1]);
-        Ok(Record { kind, left, right, own })
+        Ok(Record {
+            kind,
+            left,
+            right,
+            own,
+        })
     }
 }

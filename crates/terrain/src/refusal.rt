@@ -77,7 +77,8 @@ impl Refusal {
             | Refusal::Count { .. }
             | Refusal::Distance { .. }
             | Refusal::NoteLength { .. } => Layer::Trailer,
-            Refusal::Kind { .. } | Refusal::RecordZeros { .. } | Refusal::Volume { .. } => Layer::Record,
+            Refusal::Kind { .. } | Refusal::RecordZeros { .. } | Refusal::Volume { .. } =>
+                Layer::Record,
             Refusal::Waiting { .. }
             | Refusal::Landings { .. }
             | Refusal::OpenVolume { .. }

@@ -15,7 +15,9 @@ use super::edition::OldClient;
 use super::refusal::Refusal;
 
 pub const TRAILER_LEN: usize = 12;
+
 pub const MOST_RECORDS: u16 = 1023;
+
 pub const NOTE_LIMIT: usize = 1024;
 
 /// The edition that a file names by its digit.
@@ -64,18 +66,28 @@ fn numbers<E: Edition>(edition: EditionName, tail: &[u8], total: usize) -> Resul
     };
     let count = E::read_u16([*c0, *c1]);
     if count < 1 || count > MOST_RECORDS {
-        return Err(Refusal::Count { count, at: total - 8 });
+        return Err(Refusal::Count {
+            count,
+            at: total - 8,
+        });
     }
     let distance = E::read_u32([*d0, *d1, *d2, *d3]);
     let back = distance as usize;
     if back != count as usize * E::record_bytes() || back > total - TRAILER_LEN {
-        return Err(Refusal::Distance { distance, at: total - TRAILER_LEN });
+        return Err(Refusal::Distance {
+            distance,
+            at: total - TRAILER_LEN,
+        });
     }
     let note = total - TRAILER_LEN - back;
     if note > NOTE_LIMIT {
         return Err(Refusal::NoteLength { length: note });
     }
-    Ok(Trailer { edition, count, note })
+    Ok(Trailer {
+        edition,
+        count,
+        note,
+    })
 }
 
 impl Trailer {
@@ -89,10 +101,16 @@ impl Trailer {
             unreachable()
         };
         let Some(edition) = edition_of(tail) else {
-            return Err(Refusal::Signature { found: [*f, *t, *digit, *lf], at: total - 4 });
+            return Err(Refusal::Signature {
+                found: [*f, *t, *digit, *lf],
+                at: total - 4,
+            });
         };
         if *six != 0 || *seven != 0 {
-            return Err(Refusal::TrailerZeros { found: [*six, *seven], at: total - 6 });
+            return Err(Refusal::TrailerZeros {
+                found: [*six, *seven],
+                at: total - 6,
+            });
         }
         match edition {
             EditionName::First => numbers::<Edition1>(edition, tail, total),

@@ -24,9 +24,9 @@ fill-requires g c κs =
     record {
       fits = subst (λ (f : List ℕ). Fits e (c .args .trailer .now .count) f) (sym fe) (c .pre .fits);
       start =
-        starts e (c .args .trailer .now .count) (c .args .trailer .now .note) file (c .note .last .self) (c .unused-table .result) (c .new-waiting .result)
-        (c .pre .fits) (c .pre .note) fe (c .note .ensures .place ∙ ap (λ (k : ℕ). placeAfter file k (c .args .trailer .now .note)) (c .pre .start))
-        (c .unused-table .ensures .nodes) (c .unused-table .ensures .count) (c .new-waiting .ensures .items) (c .new-waiting .ensures .room)
+          starts e (c .args .trailer .now .count) (c .args .trailer .now .note) file (c .note .last .self) (c .unused-table .result) (c .new-waiting .result)
+          (c .pre .fits) (c .pre .note) fe (c .note .ensures .place ∙ ap (λ (k : ℕ). placeAfter file k (c .args .trailer .now .note)) (c .pre .start))
+          (c .unused-table .ensures .nodes) (c .unused-table .ensures .count) (c .new-waiting .ensures .items) (c .new-waiting .ensures .room);
     }
 
 pub returns-in-Break-one-tree : need.returns-in-Break-one-tree
@@ -38,8 +38,8 @@ returns-in-Break-one-tree g c =
     let s = stacked (c .fill .last .waiting) in
     same-file e (c .args .trailer .now .count) (c .args .reader .now .file .now) (c .fill .last .reader .file .now) _ fe
     (ended-err e (c .args .trailer .now .count) (c .args .end) (c .fill .last .reader .file .now) s (c .in-Break-one-tree .field-0 .0) _
-      (c .pre .close ∙ ap (λ (f : List ℕ). length f - 12) (sym fe)) (h .done .built .kept) (h .done .asked)
-      (verdict-err (firstNo (endSeen (c .args .end) s)) _ tt (c .in-Break-one-tree .ensures tt)) (p .1 ∙ ap Err (p .2)))
+    (c .pre .close ∙ ap (λ (f : List ℕ). length f - 12) (sym fe)) (h .done .built .kept) (h .done .asked)
+    (verdict-err (firstNo (endSeen (c .args .end) s)) _ tt (c .in-Break-one-tree .ensures tt)) (p .1 ∙ ap Err (p .2)))
 
 pub returns : need.returns
 returns g c =
@@ -49,5 +49,5 @@ returns g c =
     let s = stacked (c .fill .last .waiting) in
     same-file e (c .args .trailer .now .count) (c .args .reader .now .file .now) (c .fill .last .reader .file .now) _ fe
     (ended-ok e (c .args .trailer .now .count) (c .args .end) (c .fill .last .reader .file .now) s (c .fill .last .table)
-      (c .pre .close ∙ ap (λ (f : List ℕ). length f - 12) (sym fe)) (c .pre .fits .most) (h .done .count) (h .done .built) (h .done .asked)
-      (verdict-ok (firstNo (endSeen (c .args .end) s)) _ tt (c .in-Continue-one-tree .ensures tt) .0))
+    (c .pre .close ∙ ap (λ (f : List ℕ). length f - 12) (sym fe)) (c .pre .fits .most) (h .done .count) (h .done .built) (h .done .asked)
+    (verdict-ok (firstNo (endSeen (c .args .end) s)) _ tt (c .in-Continue-one-tree .ensures tt) .0))

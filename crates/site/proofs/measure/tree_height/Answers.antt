@@ -16,10 +16,11 @@ loop-node-again c =
     let i = c .loop-node .node-index in
     let s = stacked (c .loop-node .waiting) in
     let m = at-drop-more (λ (l : List Node). heights l s) (c .args .nodes .now) i Unused (c .loop-node-test .taken) in
-    let e = c .add-height .ensures .items in
-    ( ap (heights (drop (i + 1) (c .args .nodes .now))) e ∙ sym m ∙ c .loop-node .inv .0
-    , omega (arith, ap length e, heights-grow (getD (c .args .nodes .now) i Unused) s)
-    , c .add-height .ensures .room ∙ c .loop-node .inv .2)
+    let e = c .add-height .ensures .items in (
+      ap (heights (drop (i + 1) (c .args .nodes .now))) e ∙ sym m ∙ c .loop-node .inv .0,
+      omega (arith, ap length e, heights-grow (getD (c .args .nodes .now) i Unused) s),
+      c .add-height .ensures .room ∙ c .loop-node .inv .2,
+    )
 
 pub returns-in-Some : need.returns-in-Some
 returns-in-Some c =

@@ -31,7 +31,7 @@ returns c =
       answer = a;
       first-no = answer-in-words file (Ok tt) a;
       loaded = λ _. record { table = p .1; formed = h .formed refl; dry = h .dry refl; accepted = refl; pumped = refl };
-      kept = λ k. let z : _≡_ {A = ℕ} 0 1 = cc in absurd (omega arith)
+      kept = λ k. let z : _≡_ {A = ℕ} 0 1 = cc in absurd (omega arith);
     }
 
 pub returns-in-Break-table : need.returns-in-Break-table
@@ -45,5 +45,5 @@ returns-in-Break-table c =
       answer = a;
       first-no = answer-in-words file (c .from-residual .result) a;
       loaded = λ k. let f : isOk (c .from-residual .result) ≡ false = ap isOk e in let z : _≡_ {A = ℕ} 0 1 = cc in absurd (omega arith);
-      kept = λ _. refl
+      kept = λ _. refl;
     }

@@ -5,9 +5,10 @@ use Rattle.site.proofs.Measured.{volume-is}
 use Rattle.site.proofs.site.Site.volume.Needs as need
 
 pub total-volume-requires : need.total-volume-requires
-total-volume-requires c κs =
-    ( used-few (c .args .self .now .table) (c .records .result .now) (c .args .self .now .sound) (c .records .ensures)
-    , used-small (c .args .self .now .table) (c .records .result .now) (c .args .self .now .sound) (c .records .ensures))
+total-volume-requires c κs = (
+  used-few (c .args .self .now .table) (c .records .result .now) (c .args .self .now .sound) (c .records .ensures),
+  used-small (c .args .self .now .table) (c .records .result .now) (c .args .self .now .sound) (c .records .ensures),
+)
 
 pub returns : need.returns
 returns c = λ t e. c .total-volume .ensures ∙ ap ownSum (c .records .ensures t e) ∙ volume-is t

@@ -28,7 +28,7 @@ build-requires c κs =
       fits = subst (λ (f : List ℕ). Fits (formatOf First) (c .in-Continue-trailer .trailer .count) f) (sym fe) (r .fits);
       note = r .noted ∙ ap (λ (f : List ℕ). noteLength (formatOf First) (length f) (tailOf f)) (sym fe);
       start = ap (λ (x : Reader). x .place .at) (h .unmoved) ∙ c .new-reader .ensures .place;
-      close = ap (λ (f : List ℕ). length f - 12) (sym fe)
+      close = ap (λ (f : List ℕ). length f - 12) (sym fe);
     }
 
 pub build-requires-in-Second : need.build-requires-in-Second
@@ -43,7 +43,7 @@ build-requires-in-Second c κs =
       fits = subst (λ (f : List ℕ). Fits (formatOf Second) (c .in-Continue-trailer .trailer .count) f) (sym fe) (r .fits);
       note = r .noted ∙ ap (λ (f : List ℕ). noteLength (formatOf Second) (length f) (tailOf f)) (sym fe);
       start = ap (λ (x : Reader). x .place .at) (h .unmoved) ∙ c .new-reader .ensures .place;
-      close = ap (λ (f : List ℕ). length f - 12) (sym fe)
+      close = ap (λ (f : List ℕ). length f - 12) (sym fe);
     }
 
 pub returns-in-Break-trailer : need.returns-in-Break-trailer

@@ -25,5 +25,5 @@ returns-in-Some g c =
     record {
       answer = next-is (format (g .E·Edition .digit) (g .E·Edition .recordLen) (g .E·ByteOrder .number)) _ _ _ _ _ w p (c .read .ensures);
       place = h .place ∙ ap (placeAfter (c .args .self .now .file .now) (c .args .self .now .place .at)) w;
-      file = h .file
+      file = h .file;
     }

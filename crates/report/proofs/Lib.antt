@@ -1,0 +1,3 @@
+mod Said
+mod Steps
+mod Told

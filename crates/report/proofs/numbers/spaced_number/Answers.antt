@@ -1,0 +1,12 @@
+use mathlib.Core.List.{_∷_, append-nil}
+use mathlib.Core.Path.{ap, sym}
+use Rattle.report.proofs.Said.{made-as}
+use Rattle.std.specs.Of.String.{string-bytes}
+use Rattle.std.specs.Written.{decimal}
+use Rattle.report.proofs.numbers.spaced_number.Needs as need
+
+pub returns : need.returns
+returns c =
+    made-as string-bytes (c .format .result)
+    (ap (λ t. 32 ∷ t) (sym (append-nil (decimal (c .args .number)))))
+    (c .format .ensures .made)

@@ -1,0 +1,4 @@
+pub mod FileText
+pub mod Lines
+pub mod RefusalLines
+pub mod SiteLines
