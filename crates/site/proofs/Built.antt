@@ -10,6 +10,7 @@ use Rattle.std.proofs.shelf.Lists.{append-assoc, length-append, length-map, set
 use Rattle.std.proofs.shelf.Tests.{and-parts, eqb-true}
 use Rattle.std.proofs.shelf.Ways.{tells}
 use Rattle.std.specs.declared.option.Option.the-variants.{None}
+use Rattle.terrain.proofs.Asked.{all-yes}
 use Rattle.terrain.specs.Ask.{Question, ask, firstNo}
 use Rattle.terrain.specs.declared.record.Kind.{Kind}
 use Rattle.terrain.specs.declared.record.Kind.the-variants.{Basin, Merge, Outlet}
@@ -155,7 +156,7 @@ built-merge t rec (r ∷ l ∷ w) e h ready few two lands empty own =
       kept = ap (λ (k : ℕ). record { first = first l; outlets = k } ∷ map summaryOf w) (outlets-sum r l w n h (omega arith));
     }
 
--- One record more is built.
+-- One record more of kind k is built.
 built-kind : (k : Kind) (t : Table) (rec : Record) (w : List Tree) → t .nodes ≡ tableWith w (t .count) → Lined (t .count) w → Ready w → t .count < 1023 →
     enoughWait k w ≡ true → landed k rec w ≡ true → openIsEmpty k rec w ≡ true → rec .own < 2 ^ 40 →
     Building (record { nodes = set (t .nodes) (t .count) (nodeFor k rec (map summaryOf w)); count = t .count + 1 }) (summariesAfter k (t .count) (map summaryOf w)) (grownBy k (t .count) rec w)
@@ -163,17 +164,11 @@ built-kind Basin t rec w e h ready few a b c own = built-leaf t w (basin (t .cou
 built-kind Outlet t rec w e h ready few a b c own = built-leaf t w (outlet (t .count) 0) _ e h ready few refl refl refl refl tt refl
 built-kind Merge t rec w e h ready few a b c own = built-merge t rec w e h ready few a b c own
 
-asks-yes : (rec : Record) (at n : ℕ) (a b c : Bool) → firstNo (asks rec at n a b c) ≡ None → (a ≡ true) × (b ≡ true) × (c ≡ true)
-asks-yes rec at n true true true h = (refl, refl, refl)
-asks-yes rec at n true true false h = let z : _≡_ {A = ℕ} 0 1 = cc in absurd (omega arith)
-asks-yes rec at n true false c h = let z : _≡_ {A = ℕ} 0 1 = cc in absurd (omega arith)
-asks-yes rec at n false b c h = let z : _≡_ {A = ℕ} 0 1 = cc in absurd (omega arith)
-
+-- One record more is built.
 pub built-more : (t : Table) (s : List Summary) (w : List Tree) (rec : Record) (at : ℕ) → Building t s w → t .count < 1023 → rec .own < 2 ^ 40 →
     firstNo (treeQuestions rec at w) ≡ None →
     Building (tableAfter t rec s) (summariesAfter (rec .kind) (t .count) s) (grown (t .count) rec w)
 built-more t s w rec at b few own all =
-    let k : Kind = rec .kind in
-    let p = asks-yes rec at (length w) (enoughWait k w) (landed k rec w) (openIsEmpty k rec w) all in
+    let p = all-yes (treeQuestions rec at w) all in
     subst (λ (x : List Summary). Building (tableAfter t rec x) (summariesAfter (rec .kind) (t .count) x) (grown (t .count) rec w)) (sym (b .kept))
-    (built-kind (rec .kind) t rec w (b .holds) (b .lined) (b .ready) few (p .0) (p .1) (p .2) own)
+    (built-kind (rec .kind) t rec w (b .holds) (b .lined) (b .ready) few (p .0) (p .1 .0) (p .1 .1 .0) own)

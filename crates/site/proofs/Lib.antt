@@ -2,6 +2,7 @@ pub mod Built
 pub mod Ended
 pub mod Fresh
 pub mod Holding
+pub mod Listed
 pub mod Loads
 pub mod Measured
 pub mod Sounds

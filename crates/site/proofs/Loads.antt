@@ -22,10 +22,13 @@ use Rattle.water.specs.Formed.{Formed}
 use Rattle.water.specs.Tree.{dried}
 use Rattle.site.specs.Fill.{Fits, Spelled}
 use Rattle.site.specs.Held.{tabled}
-use Rattle.site.specs.Loaded.{TableRead}
+use Rattle.site.specs.Loaded.{OnlyTree, TableRead}
+use Rattle.site.specs.Postorder.{postorder, recordsIn}
 use Rattle.site.specs.Questions.{questions, questionsFrom}
 use Rattle.site.specs.Spell.{countIn, formatIn, startOf, treeIn, treeOf}
 use Rattle.site.specs.declared.table.Table.{Table}
+use Rattle.site.proofs.Ended.{no-ok}
+use Rattle.site.proofs.Listed.{one-postorder}
 use Rattle.site.proofs.Taken.{verdict-err, verdict-ok}
 
 -- A trailer whose questions are all answered yes names records that lie in the file.
@@ -57,6 +60,7 @@ whole-file name n file r ne ce h s =
       answer = s₂ .answer ∙ ap (λ (o : Option Refusal). verdict o (tabled (treeIn file))) (sym q);
       formed = s₂ .formed;
       dry = s₂ .dry;
+      spelled = s₂ .spelled;
     }
 
 -- A trailer that is refused is the file's refusal.
@@ -67,8 +71,9 @@ trailer-refused file r x re h =
     some-stopped (trailerQuestions (length file) (tailOf file)) (questionsFrom (formatIn file) file (countIn file) 0) x h in
     record {
       answer = re ∙ ap (λ (o : Option Refusal). verdict o (tabled (treeIn file))) (sym q);
-      formed = λ k. let f : isOk r ≡ false = ap isOk re in let z : _≡_ {A = ℕ} 0 1 = cc in absurd (omega arith);
-      dry = λ k. let f : isOk r ≡ false = ap isOk re in let z : _≡_ {A = ℕ} 0 1 = cc in absurd (omega arith);
+      formed = λ k. absurd (no-ok r x re k);
+      dry = λ k. absurd (no-ok r x re k);
+      spelled = λ k. absurd (no-ok r x re k);
     }
 
 -- What an accepted trailer tells, of the file that the reader was handed.
@@ -116,3 +121,8 @@ refusal-in (Some x) = refl
 pub answer-in-words : (file : List ℕ) (r : Result (Unit {0}) Refusal) → r ≡ verdict (firstNo (questions file)) tt → FirstNo (questions file) (refusalIn r)
 answer-in-words file r h =
     subst (FirstNo (questions file)) (sym (ap refusalIn h ∙ refusal-in (firstNo (questions file)))) (first-no (questions file))
+
+-- The file's tree is the only one that its records spell.
+pub only-tree : (file : List ℕ) → Formed (treeIn file) → dried (treeIn file) ≡ treeIn file →
+    postorder (treeIn file) ≡ recordsIn (formatIn file) file (countIn file) → OnlyTree file
+only-tree file f d s = λ t ft dt st. one-postorder t (treeIn file) (ft .numbered) (f .numbered) dt d (st ∙ sym s)

@@ -8,36 +8,36 @@ use native.Mathlib.Numerals.{add-one}
 use native.Mathlib.Omega.{arith}
 use denote.Ref.{now}
 use lib.Dec.{eqb, leb, ltb}
-use lib.ListN.{length, getD}
+use lib.ListN.{length}
 use Rattle.std.specs.Results.{isOk}
 use Rattle.std.specs.declared.option.Option.{Option}
 use Rattle.std.specs.declared.option.Option.the-variants.{Some, None}
 use Rattle.std.specs.declared.result.Result.{Result}
 use Rattle.std.specs.declared.result.Result.the-variants.{Ok, Err}
 use Rattle.std.proofs.shelf.Tests.{cond-true, eqb-true, le-leb, ltb-true}
-use Rattle.terrain.specs.Ask.{Question, ask, firstNo, verdict}
+use Rattle.terrain.specs.Ask.{AllYes, Question, firstNo, verdict}
 use Rattle.terrain.specs.Format.{Format, part}
-use Rattle.terrain.specs.Record.{recordOf, recordQuestions, spareBytes, volumeFits}
+use Rattle.terrain.specs.Record.{recordOf, recordQuestions, volumeFits}
 use Rattle.terrain.specs.Stack.{capacity, stacked}
 use Rattle.terrain.specs.Steps.{nextRecord, placeAfter, recordAt}
-use Rattle.terrain.specs.Zeros.{allZero}
 use Rattle.terrain.specs.declared.reader.Reader.{Reader}
 use Rattle.terrain.specs.declared.record.Kind.{Kind}
 use Rattle.terrain.specs.declared.record.Kind.the-variants.{Basin, Merge, Outlet}
 use Rattle.terrain.specs.declared.record.Record.{Record}
 use Rattle.terrain.specs.declared.refusal.Refusal.{Refusal}
-use Rattle.terrain.specs.declared.refusal.Refusal.the-variants.{Kind as KindRefused, RecordZeros, Volume}
 use Rattle.terrain.specs.declared.stack.Stack.{Stack}
-use Rattle.terrain.proofs.Asked.{all-passed, some-stopped}
+use Rattle.terrain.proofs.Asked.{all-passed, all-yes, some-stopped}
 use Rattle.water.specs.Tree.{Tree}
-use Rattle.site.specs.Building.{Building}
+use Rattle.site.specs.Building.{Building, listed}
 use Rattle.site.specs.Fill.{Reached, Fits, Filled}
 use Rattle.site.specs.Loader.{questionsSeen, summariesAfter, tableAfter}
+use Rattle.site.specs.Postorder.{recordsIn}
 use Rattle.site.specs.Questions.{questionsFrom, treeQuestions}
 use Rattle.site.specs.Spell.{grown, startOf, recordIn, waiting}
 use Rattle.site.specs.declared.node.Summary.{Summary}
 use Rattle.site.specs.declared.table.Table.{Table}
-use Rattle.site.proofs.Built.{same-questions, built-more, few-wait}
+use Rattle.site.proofs.Built.{built-more, same-questions}
+use Rattle.site.proofs.Listed.{listed-more}
 
 -- What a verdict tells of the questions.
 pub verdict-ok : {R A : Type 0} (o : Option R) (a b : A) → Ok a ≡ verdict o b → (o ≡ None) × (a ≡ b)
@@ -103,27 +103,24 @@ fits-below Basin v h = ltb-true _ _ h
 fits-below Merge v h = ltb-true _ _ h
 fits-below Outlet v h = omega (arith, eqb-true _ _ h)
 
-last-yes : (a b c : Bool) (x y z : Refusal) → firstNo (ask a x ∷ ask b y ∷ ask c z ∷ []) ≡ None → c ≡ true
-last-yes true true true x y z h = refl
-last-yes true true false x y z h = let n : _≡_ {A = ℕ} 0 1 = cc in absurd (omega arith)
-last-yes true false c x y z h = let n : _≡_ {A = ℕ} 0 1 = cc in absurd (omega arith)
-last-yes false b c x y z h = let n : _≡_ {A = ℕ} 0 1 = cc in absurd (omega arith)
+-- The volume of a record that passed its own questions is in range.
+volume-fits : (e : Format) (rec : List ℕ) (at : ℕ) → firstNo (recordQuestions e rec at) ≡ None → volumeFits (recordOf e rec .kind) (recordOf e rec .own) ≡ true
+volume-fits e rec at h = all-yes (recordQuestions e rec at) h .1 .1 .0
 
 pub own-below : (e : Format) (rec : List ℕ) (at : ℕ) → firstNo (recordQuestions e rec at) ≡ None → recordOf e rec .own < 2 ^ 40
-own-below e rec at h =
-    fits-below (recordOf e rec .kind) (recordOf e rec .own)
-    (last-yes (leb 1 (getD rec 0 0) && leb (getD rec 0 0) 3) (allZero (spareBytes rec)) (volumeFits (recordOf e rec .kind) (recordOf e rec .own))
-    (KindRefused (getD rec 0 0) at) (RecordZeros (spareBytes rec) (at + 1)) (Volume (recordOf e rec .own) (at + 8)) h)
+own-below e rec at h = fits-below (recordOf e rec .kind) (recordOf e rec .own) (volume-fits e rec at h)
 
 -- The facts after i records, over the file by itself.
 pub reached-with : (e : Format) (n i : ℕ) (file : List ℕ) (reader : Reader) (table : Table) (stack : Stack Summary) → now (reader .file) ≡ file →
     reader .place .at ≡ startOf e file i → table .count ≡ i → Building table (stacked stack) (waiting e file i) →
+    listed (waiting e file i) ≡ recordsIn e file i →
     firstNo (questionsFrom e file n 0) ≡ firstNo (questionsFrom e file (n - i) i) → capacity stack ≡ 1023 → Reached e n i reader table stack
-reached-with e n i file reader table stack fe place count built asked room =
+reached-with e n i file reader table stack fe place count built list asked room =
     record {
       place = subst (λ (f : List ℕ). reader .place .at ≡ startOf e f i) (sym fe) place;
       count = count;
       built = subst (λ (f : List ℕ). Building table (stacked stack) (waiting e f i)) (sym fe) built;
+      listed = subst (λ (f : List ℕ). listed (waiting e f i) ≡ recordsIn e f i) (sym fe) list;
       asked = subst (λ (f : List ℕ). firstNo (questionsFrom e f n 0) ≡ firstNo (questionsFrom e f (n - i) i)) (sym fe) asked;
       room = room;
     }
@@ -140,14 +137,14 @@ seen-asked e i at file said t s b few pe se =
 pub taken : (e : Format) (n i at : ℕ) (file : List ℕ) (said : Record) (reader : Reader) (before after : Table) (stack stack′ : Stack Summary)
     (r : Result (Unit {0}) Refusal) →
     i < n → n ≤ 1023 → at ≡ startOf e file i → said ≡ recordIn e file i → firstNo (recordAsked e file i) ≡ None →
-    before .count ≡ i → Building before (stacked stack) (waiting e file i) →
+    before .count ≡ i → Building before (stacked stack) (waiting e file i) → listed (waiting e file i) ≡ recordsIn e file i →
     firstNo (questionsFrom e file n 0) ≡ firstNo (questionsFrom e file (n - i) i) →
     r ≡ verdict (firstNo (questionsSeen before (stacked stack) said at)) tt →
     (isOk r ≡ true → after ≡ tableAfter before said (stacked stack)) →
     (isOk r ≡ true → stacked stack′ ≡ summariesAfter (said .kind) (before .count) (stacked stack)) →
     capacity stack′ ≡ 1023 → now (reader .file) ≡ file → reader .place .at ≡ startOf e file i + e .recordLen →
     Filled e n (i + 1) file reader after stack′ r
-taken e n i at file said reader before after stack stack′ (Ok u) more few pe se re ce b asked ans ta sa room fe place =
+taken e n i at file said reader before after stack stack′ (Ok u) more few pe se re ce b list asked ans ta sa room fe place =
     let s : List Summary = stacked stack in
     let w : List Tree = waiting e file i in
     let q : questionsSeen before s said at ≡ treeAsked e file i = seen-asked e i at file said before s b (omega arith) pe se in
@@ -163,10 +160,16 @@ taken e n i at file said reader before after stack stack′ (Ok u) more few pe s
     let b₂ : Building after (stacked stack′) (grown (before .count) said w) =
     subst (λ (x : List Summary). Building after x (grown (before .count) said w)) (sym (sa refl)) b₁ in
     let b₃ : Building after (stacked stack′) (waiting e file (i + 1)) = subst (λ (x : List Tree). Building after (stacked stack′) x) g b₂ in
+    let y : AllYes (treeQuestions said at w) = all-yes (treeQuestions said at w) none′ in
+    let v : volumeFits (said .kind) (said .own) ≡ true =
+        subst (λ (x : Record). volumeFits (x .kind) (x .own) ≡ true) (sym se) (volume-fits e (part file (startOf e file i) (e .recordLen)) (startOf e file i) re) in
+    let ls : listed (waiting e file (i + 1)) ≡ recordsIn e file (i + 1) =
+        ap listed (sym g) ∙ listed-more (before .count) said w (y .0) (y .1 .0) v ∙ ap (λ (x : Record). listed w ++ (x ∷ [])) se
+        ∙ ap (λ (x : List Record). x ++ (recordIn e file i ∷ [])) list ∙ ap (recordsIn e file) (sym (add-one i)) in
     let c : after .count ≡ i + 1 = ap (λ (x : Table). x .count) (ta refl) ∙ ap (λ (k : ℕ). k + 1) ce in
-    reached-with e n (i + 1) file reader after stack′ fe (place ∙ sym (next-start e file i)) c b₃
+    reached-with e n (i + 1) file reader after stack′ fe (place ∙ sym (next-start e file i)) c b₃ ls
     (asked ∙ passed-record e n i file more re (ap firstNo (sym q) ∙ none)) room
-taken e n i at file said reader before after stack stack′ (Err x) more few pe se re ce b asked ans ta sa room fe place =
+taken e n i at file said reader before after stack stack′ (Err x) more few pe se re ce b list asked ans ta sa room fe place =
     let s : List Summary = stacked stack in
     let q : questionsSeen before s said at ≡ treeAsked e file i = seen-asked e i at file said before s b (omega arith) pe se in
     let some : firstNo (questionsSeen before s said at) ≡ Some x = verdict-err (firstNo (questionsSeen before s said at)) x tt ans in

@@ -5,6 +5,8 @@ use Prim.Native.Nat.{ℕ, _+_, _-_}
 use lib.ListN.{replicate}
 use Rattle.water.specs.Tree.{Tree, first, size, outlets, dried}
 use Rattle.water.specs.Formed.{Numbered, Shaped}
+use Rattle.terrain.specs.declared.record.Record.{Record}
+use Rattle.site.specs.Postorder.{postorder}
 use Rattle.site.specs.Records.{records}
 use Rattle.site.specs.declared.node.Node.{Node}
 use Rattle.site.specs.declared.node.Node.the-variants.{Unused}
@@ -15,6 +17,11 @@ use Rattle.site.specs.declared.table.Table.{Table}
 abbrev pub written : List Tree → List Node
 written [] = []
 written (t ∷ w) = written w ++ records t
+
+-- The same records as the file has them.
+abbrev pub listed : List Tree → List Record
+listed [] = []
+listed (t ∷ w) = listed w ++ postorder t
 
 -- The subtrees that wait are numbered one after the other up to n.
 abbrev pub Lined : ℕ → List Tree → Type 0

@@ -15,8 +15,9 @@ use Rattle.terrain.specs.Stack.{capacity, stacked}
 use Rattle.terrain.specs.declared.reader.Reader.{Reader}
 use Rattle.terrain.specs.declared.refusal.Refusal.{Refusal}
 use Rattle.terrain.specs.declared.stack.Stack.{Stack}
-use Rattle.site.specs.Building.{Building}
+use Rattle.site.specs.Building.{Building, listed}
 use Rattle.site.specs.Held.{tabled}
+use Rattle.site.specs.Postorder.{postorder, recordsIn}
 use Rattle.site.specs.Questions.{questionsFrom}
 use Rattle.site.specs.Spell.{startOf, treeOf, waiting}
 use Rattle.water.specs.Formed.{Formed}
@@ -29,6 +30,7 @@ pub record Reached (e : Format) (n i : ℕ) (reader : Reader) (table : Table) (s
   pub place : reader .place .at ≡ startOf e (now (reader .file)) i
   pub count : table .count ≡ i
   pub built : Building table (stacked stack) (waiting e (now (reader .file)) i)
+  pub listed : listed (waiting e (now (reader .file)) i) ≡ recordsIn e (now (reader .file)) i
   pub asked : firstNo (questionsFrom e (now (reader .file)) n 0) ≡ firstNo (questionsFrom e (now (reader .file)) (n - i) i)
   pub room : capacity stack ≡ 1023
 
@@ -48,3 +50,4 @@ pub record Spelled (e : Format) (n : ℕ) (file : List ℕ) (r : Result Table Re
   pub answer : r ≡ verdict (firstNo (questionsFrom e file n 0)) (tabled (treeOf e file n))
   pub formed : isOk r ≡ true → Formed (treeOf e file n)
   pub dry : isOk r ≡ true → dried (treeOf e file n) ≡ treeOf e file n
+  pub spelled : isOk r ≡ true → postorder (treeOf e file n) ≡ recordsIn e file n

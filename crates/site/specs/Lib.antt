@@ -4,6 +4,7 @@ pub mod Held
 pub mod Loaded
 pub mod Loader
 pub mod Measures
+pub mod Postorder
 pub mod Questions
 pub mod Records
 pub mod Spell

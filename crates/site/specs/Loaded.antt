@@ -7,19 +7,27 @@ use Rattle.std.specs.Results.{isOk}
 use Rattle.std.specs.declared.result.Result.{Result}
 use Rattle.terrain.specs.Ask.{firstNo, verdict}
 use Rattle.terrain.specs.declared.refusal.Refusal.{Refusal}
-use Rattle.water.specs.Tree.{dried}
+use Rattle.water.specs.Tree.{Tree, dried}
 use Rattle.water.specs.Formed.{Formed}
 use Rattle.site.specs.Held.{tabled}
+use Rattle.site.specs.Postorder.{postorder, recordsIn}
 use Rattle.site.specs.Questions.{questions}
-use Rattle.site.specs.Spell.{treeIn}
+use Rattle.site.specs.Spell.{countIn, formatIn, treeIn}
 use Rattle.site.specs.declared.site.Site.{Site}
 use Rattle.site.specs.declared.table.Table.{Table}
 
--- The table holds exactly the tree that the records spell, dry, and all sums are zero.
+-- No other dry tree that is formed as a site's tree has the file's records in postorder.
+abbrev pub OnlyTree : List ℕ → Type 0
+OnlyTree file =
+    (t : Tree) → Formed t → dried t ≡ t → postorder t ≡ recordsIn (formatIn file) file (countIn file) → t ≡ treeIn file
+
+-- The table holds exactly the tree that the records spell in postorder, dry, and all sums are zero.
 pub record Loaded (file : List ℕ) (site : Site) : Type 0 where
   pub table : site .table ≡ tabled (treeIn file)
   pub formed : Formed (treeIn file)
   pub dry : dried (treeIn file) ≡ treeIn file
+  pub spelled : postorder (treeIn file) ≡ recordsIn (formatIn file) file (countIn file)
+  pub only : OnlyTree file
   pub accepted : site .accepted ≡ 0
   pub pumped : site .pumped ≡ 0
 
@@ -28,3 +36,4 @@ pub record TableRead (file : List ℕ) (r : Result Table Refusal) : Type 0 where
   pub answer : r ≡ verdict (firstNo (questions file)) (tabled (treeIn file))
   pub formed : isOk r ≡ true → Formed (treeIn file)
   pub dry : isOk r ≡ true → dried (treeIn file) ≡ treeIn file
+  pub spelled : isOk r ≡ true → postorder (treeIn file) ≡ recordsIn (formatIn file) file (countIn file)

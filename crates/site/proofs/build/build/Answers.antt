@@ -49,5 +49,5 @@ returns g c =
     let s = stacked (c .fill .last .waiting) in
     same-file e (c .args .trailer .now .count) (c .args .reader .now .file .now) (c .fill .last .reader .file .now) _ fe
     (ended-ok e (c .args .trailer .now .count) (c .args .end) (c .fill .last .reader .file .now) s (c .fill .last .table)
-    (c .pre .close ∙ ap (λ (f : List ℕ). length f - 12) (sym fe)) (c .pre .fits .most) (h .done .count) (h .done .built) (h .done .asked)
+    (c .pre .close ∙ ap (λ (f : List ℕ). length f - 12) (sym fe)) (c .pre .fits .most) (h .done .count) (h .done .built) (h .done .listed) (h .done .asked)
     (verdict-ok (firstNo (endSeen (c .args .end) s)) _ tt (c .in-Continue-one-tree .ensures tt) .0))

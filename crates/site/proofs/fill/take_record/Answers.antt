@@ -51,7 +51,7 @@ returns g c =
     record {
       done =
           taken e (c .args .count) (c .args .i) (c .place-at .result) (c .args .reader .now .file .now) (c .in-Continue-said .said) _ (c .args .table .now) _ (c .args .waiting .now) _ (c .grow .result)
-          (c .pre .more) (c .pre .fits .most) (c .place-at .ensures ∙ r .place) (said .1) (said .0) (r .count) (r .built) (r .asked)
+          (c .pre .more) (c .pre .fits .most) (c .place-at .ensures ∙ r .place) (said .1) (said .0) (r .count) (r .built) (r .listed) (r .asked)
           (c .grow .ensures .answer) (c .grow .ensures .table) (c .grow .ensures .waiting) (c .grow .ensures .room ∙ r .room) (ap now (h .file))
           (h .place ∙ place-behind e (c .args .count) (c .args .i) (c .args .reader .now .place .at) (c .args .reader .now .file .now) (c .pre .fits) (c .pre .more) (r .place));
       file = h .file;

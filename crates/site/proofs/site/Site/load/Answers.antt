@@ -11,7 +11,7 @@ use Rattle.terrain.specs.Ask.{firstNo, verdict}
 use Rattle.terrain.specs.declared.refusal.Refusal.{Refusal}
 use Rattle.site.specs.Questions.{questions}
 use Rattle.site.specs.Spell.{treeIn}
-use Rattle.site.proofs.Loads.{answer-in-words, table-read, table-refused}
+use Rattle.site.proofs.Loads.{answer-in-words, only-tree, table-read, table-refused}
 use Rattle.site.proofs.Sounds.{held-dry}
 use Rattle.site.proofs.site.Site.load.Needs as need
 
@@ -30,7 +30,17 @@ returns c =
     record {
       answer = a;
       first-no = answer-in-words file (Ok tt) a;
-      loaded = λ _. record { table = p .1; formed = h .formed refl; dry = h .dry refl; accepted = refl; pumped = refl };
+      loaded =
+          λ _.
+          record {
+            table = p .1;
+            formed = h .formed refl;
+            dry = h .dry refl;
+            spelled = h .spelled refl;
+            only = only-tree file (h .formed refl) (h .dry refl) (h .spelled refl);
+            accepted = refl;
+            pumped = refl;
+          };
       kept = λ k. let z : _≡_ {A = ℕ} 0 1 = cc in absurd (omega arith);
     }
 
