@@ -18,13 +18,13 @@ use Rattle.std.proofs.shelf.Tests.{cond-true, eqb-true, le-leb}
 use Rattle.terrain.proofs.Asked.{all-yes}
 use Rattle.terrain.specs.Ask.{AllYes, ask, firstNo, verdict}
 use Rattle.terrain.specs.Format.{Format}
-use Rattle.terrain.specs.Stack.{capacity, stacked}
+use Rattle.stack.specs.Stack.{capacity, stacked}
 use Rattle.terrain.specs.Steps.{placeAfter}
 use Rattle.terrain.specs.Trailer.{noteLength, tailOf}
 use Rattle.terrain.specs.declared.reader.Reader.{Reader}
 use Rattle.terrain.specs.declared.refusal.Refusal.{Refusal}
 use Rattle.terrain.specs.declared.refusal.Refusal.the-variants.{Subtrees, Outlets}
-use Rattle.terrain.specs.declared.stack.Stack.{Stack}
+use Rattle.stack.specs.declared.stack.Stack.{Stack}
 use Rattle.water.specs.Formed.{Formed, Numbered}
 use Rattle.water.specs.Tree.{Tree, dried, first, outlets, size}
 use Rattle.site.specs.Building.{Building, listed, summaryOf}

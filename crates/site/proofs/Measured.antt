@@ -8,7 +8,7 @@ use lib.ListN.{length, getD}
 use Rattle.std.proofs.shelf.Lists.{getD-append-left, getD-append-right}
 use Rattle.std.proofs.shelf.Tests.{cases-lt}
 use Rattle.std.specs.declared.option.Option.the-variants.{Some, None}
-use Rattle.terrain.specs.Stack.{newest}
+use Rattle.stack.specs.Stack.{newest}
 use Rattle.water.specs.Tree.{Tree, basin, outlet, merge, size, volume, height}
 use Rattle.water.specs.Formed.{Shaped}
 use Rattle.site.specs.Measures.{ownIn, ownSum, joinedHeights, heightsAfter, heights, newestHeight}

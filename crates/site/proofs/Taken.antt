@@ -18,14 +18,14 @@ use Rattle.std.proofs.shelf.Tests.{cond-true, eqb-true, le-leb, ltb-true}
 use Rattle.terrain.specs.Ask.{AllYes, Question, firstNo, verdict}
 use Rattle.terrain.specs.Format.{Format, part}
 use Rattle.terrain.specs.Record.{recordOf, recordQuestions, volumeFits}
-use Rattle.terrain.specs.Stack.{capacity, stacked}
+use Rattle.stack.specs.Stack.{capacity, stacked}
 use Rattle.terrain.specs.Steps.{nextRecord, placeAfter, recordAt}
 use Rattle.terrain.specs.declared.reader.Reader.{Reader}
 use Rattle.terrain.specs.declared.record.Kind.{Kind}
 use Rattle.terrain.specs.declared.record.Kind.the-variants.{Basin, Merge, Outlet}
 use Rattle.terrain.specs.declared.record.Record.{Record}
 use Rattle.terrain.specs.declared.refusal.Refusal.{Refusal}
-use Rattle.terrain.specs.declared.stack.Stack.{Stack}
+use Rattle.stack.specs.declared.stack.Stack.{Stack}
 use Rattle.terrain.proofs.Asked.{all-passed, all-yes, some-stopped}
 use Rattle.water.specs.Tree.{Tree}
 use Rattle.site.specs.Building.{Building, listed}

@@ -11,10 +11,10 @@ use Rattle.std.specs.declared.result.Result.the-variants.{Ok, Err}
 use Rattle.std.specs.Results.{isOk}
 use Rattle.terrain.specs.Ask.{firstNo, verdict}
 use Rattle.terrain.specs.Format.{Format}
-use Rattle.terrain.specs.Stack.{capacity, stacked}
+use Rattle.stack.specs.Stack.{capacity, stacked}
 use Rattle.terrain.specs.declared.reader.Reader.{Reader}
 use Rattle.terrain.specs.declared.refusal.Refusal.{Refusal}
-use Rattle.terrain.specs.declared.stack.Stack.{Stack}
+use Rattle.stack.specs.declared.stack.Stack.{Stack}
 use Rattle.site.specs.Building.{Building, listed}
 use Rattle.site.specs.Held.{tabled}
 use Rattle.site.specs.Postorder.{postorder, recordsIn}

@@ -5,15 +5,15 @@ ghost use Rattle.terrain.specs.Format.{format};
 ghost use Rattle.terrain.specs.Trailer.{noteLength, tailOf};
 ghost use lib.ListN.{length};
 ghost use mathlib.Core.Path.{_≡_};
-use super::fill::fill;
-use super::grow::one_tree;
-use super::node::Summary;
-use super::table::PLACES;
-use super::table::Table;
-use terrain::Edition;
+use crate::fill::fill;
+use crate::grow::one_tree;
+use crate::node::Summary;
+use crate::table::PLACES;
+use crate::table::Table;
+use byte_order::Edition;
 use terrain::Reader;
 use terrain::Refusal;
-use terrain::Stack;
+use stack::Stack;
 use terrain::Trailer;
 
 /// Reads the note and the records that the trailer names; `end` is where the trailer starts.

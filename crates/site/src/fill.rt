@@ -3,13 +3,13 @@ ghost use Prim.Native.Nat.{_+_, _<_};
 ghost use Rattle.site.specs.Fill.{Filled, Fits, Reached};
 ghost use Rattle.terrain.specs.Format.{format};
 ghost use mathlib.Core.Path.{_≡_};
-use super::grow::grow;
-use super::node::Summary;
-use super::table::Table;
-use terrain::Edition;
+use crate::grow::grow;
+use crate::node::Summary;
+use crate::table::Table;
+use byte_order::Edition;
 use terrain::Reader;
 use terrain::Refusal;
-use terrain::Stack;
+use stack::Stack;
 
 // Puts record i of `count` into the table, if its questions are all answered yes.
 fn take_record<E: Edition>(

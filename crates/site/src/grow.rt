@@ -4,20 +4,20 @@ ghost use Rattle.site.specs.Loader.{endSeen, questionsSeen, summariesAfter, ta
 ghost use Rattle.std.specs.Results.{isOk};
 ghost use Rattle.terrain.specs.Ask.{ask, firstNo, verdict};
 ghost use Rattle.terrain.specs.declared.refusal.Refusal.the-variants.{Landings};
-ghost use Rattle.terrain.specs.Stack.{capacity, stacked};
+ghost use Rattle.stack.specs.Stack.{capacity, stacked};
 ghost use Rattle.terrain.specs.declared.record.Kind.the-variants.{Merge};
 ghost use lib.ListN.{length};
 ghost use lib.Dec.{eqb};
 ghost use mathlib.Core.Bool.{true, _&&_};
 ghost use mathlib.Core.List.{[], _∷_};
 ghost use mathlib.Core.Path.{_≡_};
-use super::node::Node;
-use super::node::Summary;
-use super::table::Table;
+use crate::node::Node;
+use crate::node::Summary;
+use crate::table::Table;
 use terrain::Kind;
 use terrain::Record;
 use terrain::Refusal;
-use terrain::Stack;
+use stack::Stack;
 
 // A merge joins the two subtrees that were finished last.
 fn merge(

@@ -11,4 +11,3 @@ ghost use Rattle.site.specs.Loaded.{Loaded};
 ghost use Rattle.site.specs.Questions.{questions};
 pub use node::Node;
 pub use site::Site;
-pub use table::Table;

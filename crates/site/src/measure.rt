@@ -2,13 +2,13 @@
 ghost use Prim.Native.Nat.{ℕ, _*_, _^_, _+_, _<_, _≤_};
 ghost use Rattle.site.specs.Measures.{heights, heightsAfter, joinedHeights, newestHeight, ownIn, ownSum};
 ghost use Rattle.site.specs.declared.node.Node.the-variants.{Unused};
-ghost use Rattle.terrain.specs.Stack.{capacity, stacked};
+ghost use Rattle.stack.specs.Stack.{capacity, stacked};
 ghost use lib.ListN.{getD, length};
 ghost use mathlib.Core.List.{[]};
 ghost use mathlib.Core.Path.{_≡_};
-use super::node::Node;
-use super::table::PLACES;
-use terrain::Stack;
+use crate::node::Node;
+use crate::table::PLACES;
+use stack::Stack;
 
 // The own volume of a record.
 fn own_volume(node: &Node) -> u64

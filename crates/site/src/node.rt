@@ -2,7 +2,7 @@
 
 /// A record with its own volume and its water, in litres. A merge also has the first record number of its
 /// right side, and the leaf on each side where water that spills over its saddle lands.
-#[derive(Clone, Copy, PartialEq, Eq, Debug)]
+#[derive(Clone, Copy)]
 pub enum Node {
     Unused,
     Basin {
@@ -22,7 +22,7 @@ pub enum Node {
 }
 
 /// What the loader keeps of a subtree that waits for its merge: its first record number, and its outlets.
-#[derive(Clone, Copy, PartialEq, Eq, Debug)]
+#[derive(Clone, Copy)]
 pub struct Summary {
     pub first: u16,
     pub outlets: u16,

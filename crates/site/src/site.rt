@@ -1,6 +1,6 @@
 // A site: the table of its records with their water, and the sums of its calls.
 ghost use Rattle.site.specs.Held.{Held};
-use super::table::Table;
+use crate::table::Table;
 
 /// The records of a site with their water, the litres of accepted rain and of accepted pumping.
 #[derive(Drop)]

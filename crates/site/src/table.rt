@@ -1,5 +1,5 @@
 // The table of a site's records.
-use super::node::Node;
+use crate::node::Node;
 
 /// How many records a site has at most.
 pub const PLACES: usize = 1023;

@@ -11,7 +11,7 @@ use Rattle.std.specs.declared.option.Option.the-variants.{Some, None}
 use Rattle.std.proofs.shelf.Lists.{take-rest, length-drop, drop-more}
 use Rattle.terrain.specs.Format.{part}
 use Rattle.std.proofs.shelf.Tests.{cond-true, eq-eqb}
-use Rattle.terrain.specs.Volume.{volumeIn, volumeWidth}
+use Rattle.byte_order.specs.Volume.{volumeIn, volumeWidth}
 
 -- The volume field is all that follows the first eight bytes.
 pub volume-is : (number : List ℕ → ℕ) (len own : ℕ) (rec : List ℕ) → length rec ≡ len →

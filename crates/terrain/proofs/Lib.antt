@@ -1,7 +1,4 @@
 pub mod Asked
 pub mod Fields
 pub mod Signed
-pub mod Spelling
-pub mod Stacked
 pub mod Stepping
-pub mod Volumes

@@ -4,7 +4,7 @@ use mathlib.Core.List.{List}
 use Prim.Native.Nat.{ℕ, _-_}
 use lib.Dec.{eqb}
 use lib.ListN.{length, getD, take, drop}
-use Rattle.terrain.specs.Bytes.{little, big}
+use Rattle.byte_order.specs.Bytes.{little, big}
 
 -- An edition: its digit, the bytes of a record, and the number that bytes spell.
 pub record Format : Type 0 where

@@ -1,10 +1,7 @@
 pub mod Ask
-pub mod Bytes
 pub mod Case
 pub mod Format
 pub mod Record
-pub mod Stack
 pub mod Steps
 pub mod Trailer
-pub mod Volume
 pub mod Zeros

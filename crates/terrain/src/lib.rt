@@ -1,30 +1,15 @@
 // The terrain file format: what a file says, and why one is refused.
-mod byte_order;
-mod edition;
 mod place;
 mod reader;
 mod record;
 mod refusal;
-mod stack;
 mod trailer;
 
-pub use byte_order::BigEndian;
-pub use byte_order::BigEndianOrder;
-pub use byte_order::ByteOrder;
-pub use byte_order::LittleEndian;
-pub use byte_order::LittleEndianOrder;
-pub use edition::Edition;
-pub use edition::Edition1;
-pub use edition::Edition2;
-pub use edition::NewClient;
-pub use edition::OldClient;
-pub use place::Place;
 pub use reader::Reader;
 pub use record::Kind;
 pub use record::Record;
 pub use refusal::Layer;
 pub use refusal::Refusal;
-pub use stack::Stack;
 pub use trailer::EditionName;
 pub use trailer::TRAILER_LEN;
 pub use trailer::Trailer;

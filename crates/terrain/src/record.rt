@@ -8,11 +8,11 @@ ghost use lib.ListN.{length};
 ghost use mathlib.Core.Bool.{cond, _&&_};
 ghost use mathlib.Core.Path.{_≡_};
 ghost use Rattle.std.specs.declared.option.Option.the-variants.{Some, None};
-use super::edition::Edition;
-use super::refusal::Refusal;
+use byte_order::Edition;
+use crate::refusal::Refusal;
 
 /// What a record stands for.
-#[derive(Clone, Copy, PartialEq, Eq, Debug)]
+#[derive(Clone, Copy)]
 pub enum Kind {
     Basin,
     Merge,
@@ -20,7 +20,7 @@ pub enum Kind {
 }
 
 /// A record as the file has it. Leaves have landings 0.
-#[derive(Clone, Copy, PartialEq, Eq, Debug)]
+#[derive(Clone, Copy)]
 pub struct Record {
     pub kind: Kind,
     pub left: u16,

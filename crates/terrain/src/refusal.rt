@@ -3,7 +3,7 @@ ghost use Rattle.terrain.specs.Case.{caseOf};
 ghost use mathlib.Core.Path.{_≡_};
 
 /// The part of the check that found a refusal.
-#[derive(Clone, Copy, PartialEq, Eq, Debug)]
+#[derive(Clone, Copy)]
 pub enum Layer {
     Trailer,
     Record,
@@ -11,7 +11,7 @@ pub enum Layer {
 }
 
 /// The question that was answered no. Places count from the file's first byte.
-#[derive(Clone, Copy, PartialEq, Eq, Debug)]
+#[derive(Clone, Copy)]
 pub enum Refusal {
     /// At least 12 bytes?
     TooShort { length: usize },

@@ -7,12 +7,12 @@ ghost use Rattle.terrain.specs.Trailer.{countQuestions, nameOf, signed, traile
 ghost use mathlib.Core.Bool.{cond};
 ghost use lib.ListN.{length};
 ghost use mathlib.Core.Path.{_≡_};
-use super::edition::Edition;
-use super::edition::Edition1;
-use super::edition::Edition2;
-use super::edition::NewClient;
-use super::edition::OldClient;
-use super::refusal::Refusal;
+use byte_order::Edition;
+use byte_order::Edition1;
+use byte_order::Edition2;
+use byte_order::NewClient;
+use byte_order::OldClient;
+use crate::refusal::Refusal;
 
 pub const TRAILER_LEN: usize = 12;
 
@@ -21,14 +21,14 @@ pub const MOST_RECORDS: u16 = 1023;
 pub const NOTE_LIMIT: usize = 1024;
 
 /// The edition that a file names by its digit.
-#[derive(Clone, Copy, PartialEq, Eq, Debug)]
+#[derive(Clone, Copy)]
 pub enum EditionName {
     First,
     Second,
 }
 
 /// What a trailer says: the edition, how many records, and how many bytes of note stand before them.
-#[derive(Clone, Copy, PartialEq, Eq, Debug)]
+#[derive(Clone, Copy)]
 pub struct Trailer {
     pub edition: EditionName,
     pub count: u16,

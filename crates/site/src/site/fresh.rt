@@ -2,7 +2,7 @@
 ghost use Rattle.site.specs.Held.{tabled};
 ghost use Rattle.water.specs.Tree.{outlet};
 ghost use mathlib.Core.Path.{_≡_};
-use super::super::table::Table;
+use crate::table::Table;
 use super::Site;
 
 impl Site {

@@ -3,9 +3,9 @@ ghost use Rattle.site.specs.Held.{tabled};
 ghost use Rattle.site.specs.Records.{records};
 ghost use Rattle.water.specs.Tree.{Tree, height, volume};
 ghost use mathlib.Core.Path.{_≡_};
-use super::super::measure::total_volume;
-use super::super::measure::tree_height;
-use super::super::node::Node;
+use crate::measure::total_volume;
+use crate::measure::tree_height;
+use crate::node::Node;
 use super::Site;
 
 impl Site {

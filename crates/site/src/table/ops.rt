@@ -6,7 +6,7 @@ ghost use Rattle.water.specs.Tree.{outlet};
 ghost use Rattle.site.specs.declared.node.Node.the-variants.{Unused};
 ghost use lib.ListN.{replicate, set, take};
 ghost use mathlib.Core.Path.{_≡_};
-use super::super::node::Node;
+use crate::node::Node;
 use super::PLACES;
 use super::Table;
 

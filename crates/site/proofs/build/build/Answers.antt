@@ -8,7 +8,7 @@ use Rattle.std.specs.declared.option.Option.the-variants.{Some}
 use Rattle.std.specs.declared.result.Result.the-variants.{Err}
 use Rattle.terrain.specs.Ask.{firstNo}
 use Rattle.terrain.specs.Format.{Format, format}
-use Rattle.terrain.specs.Stack.{stacked}
+use Rattle.stack.specs.Stack.{stacked}
 use Rattle.terrain.specs.Steps.{placeAfter}
 use Rattle.site.specs.Fill.{Fits}
 use Rattle.site.specs.Loader.{endSeen}

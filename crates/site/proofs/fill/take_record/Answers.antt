@@ -8,7 +8,7 @@ use Rattle.std.proofs.shelf.Lists.{length-map}
 use Rattle.std.proofs.shelf.Results.{err-from-errBy}
 use Rattle.std.specs.declared.option.Option.the-variants.{Some}
 use Rattle.terrain.specs.Format.{Format, format}
-use Rattle.terrain.specs.Stack.{stacked, capacity}
+use Rattle.stack.specs.Stack.{stacked, capacity}
 use Rattle.site.specs.Building.{summaryOf}
 use Rattle.site.specs.Spell.{startOf, waiting}
 use Rattle.site.proofs.Built.{few-wait}

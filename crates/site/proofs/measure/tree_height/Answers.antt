@@ -4,7 +4,7 @@ use Prim.Native.Nat.{ℕ, _<_, _≤_, _+_}
 use native.Mathlib.Omega.{arith}
 use lib.ListN.{drop, getD, length}
 use Rattle.std.proofs.shelf.Lists.{at-drop-all, at-drop-more}
-use Rattle.terrain.specs.Stack.{stacked}
+use Rattle.stack.specs.Stack.{stacked}
 use Rattle.site.specs.Measures.{heights, newestHeight}
 use Rattle.site.specs.declared.node.Node.{Node}
 use Rattle.site.specs.declared.node.Node.the-variants.{Unused}

@@ -2,7 +2,7 @@ use mathlib.Core.List.{[]}
 use mathlib.Core.Path.{_≡_}
 use Prim.Native.Nat.{_≤_}
 use lib.ListN.{drop, length}
-use Rattle.terrain.specs.Stack.{capacity, stacked}
+use Rattle.stack.specs.Stack.{capacity, stacked}
 use Rattle.site.specs.Measures.{heights}
 use Rattle.site.proofs.measure.tree_height.Given as given
 
