@@ -4,6 +4,7 @@ use mathlib.Core.Bool.{Bool, true, false, _&&_}
 use mathlib.Core.List.{List, [], _∷_, _++_}
 use Prim.Native.Nat.{ℕ, _+_, _-_, _*_, _≤_, _<_, _^_}
 use native.Mathlib.Omega.{arith}
+use denote.Ref.{now}
 use lib.ListN.{length}
 use Rattle.std.specs.Results.{isOk}
 use Rattle.std.specs.declared.option.Option.{Option}
@@ -14,6 +15,7 @@ use Rattle.std.proofs.shelf.Tests.{and-parts, eqb-true, leb-true}
 use Rattle.terrain.specs.Ask.{AllYes, FirstNo, firstNo, refusalIn, verdict}
 use Rattle.terrain.specs.Format.{Format}
 use Rattle.terrain.specs.Trailer.{countOf, distanceOf, formatOf, nameOf, noteLength, tailOf, trailerOf, trailerQuestions}
+use Rattle.terrain.specs.declared.reader.Reader.{Reader}
 use Rattle.terrain.specs.declared.refusal.Refusal.{Refusal}
 use Rattle.terrain.specs.declared.trailer.EditionName.{EditionName}
 use Rattle.terrain.specs.declared.trailer.Trailer.{Trailer}
@@ -27,7 +29,7 @@ use Rattle.site.specs.Postorder.{postorder, recordsIn}
 use Rattle.site.specs.Questions.{questions, questionsFrom}
 use Rattle.site.specs.Spell.{countIn, formatIn, startOf, treeIn, treeOf}
 use Rattle.site.specs.declared.table.Table.{Table}
-use Rattle.site.proofs.Ended.{no-ok}
+use Rattle.site.proofs.Ended.{no-ok, same-file}
 use Rattle.site.proofs.Listed.{one-postorder}
 use Rattle.site.proofs.Taken.{verdict-err, verdict-ok}
 
@@ -84,27 +86,39 @@ trailer-read file₀ file t fe h =
     verdict-ok (firstNo (trailerQuestions (length file) (tailOf file))) t (trailerOf (length file) (tailOf file))
     (subst (λ (f : List ℕ). Ok t ≡ verdict (firstNo (trailerQuestions (length f) (tailOf f))) (trailerOf (length f) (tailOf f))) fe h)
 
--- What the records are read with, once the trailer is accepted.
-pub record Ready (name : EditionName) (file : List ℕ) (t : Trailer) : Type 0 where
-  pub named : nameOf (tailOf file) ≡ name
-  pub counted : t .count ≡ countOf (formatOf name) (tailOf file)
-  pub noted : t .note ≡ noteLength (formatOf name) (length file) (tailOf file)
-  pub fits : Fits (formatOf name) (t .count) file
+-- What the records are read with, once the trailer is accepted: an edition, and a reader at the file's first byte.
+pub record Handed (name : EditionName) (file : List ℕ) (t : Trailer) (reader : Reader) : Type 0 where
+  pub fits : Fits (formatOf name) (t .count) (now (reader .file))
+  pub note : t .note ≡ noteLength (formatOf name) (length (now (reader .file))) (tailOf (now (reader .file)))
+  pub start : reader .place .at ≡ 0
+  pub close : length file - 12 ≡ length (now (reader .file)) - 12
+  pub whole : (r : Result Table Refusal) → Spelled (formatOf name) (t .count) (now (reader .file)) r → TableRead file r
 
-pub ready : (name : EditionName) (file : List ℕ) (t : Trailer) → length file < 2 ^ 64 → firstNo (trailerQuestions (length file) (tailOf file)) ≡ None →
-    t ≡ trailerOf (length file) (tailOf file) → t .edition ≡ name → Ready name file t
-ready name file t bound h te is =
+-- The same over the file by itself.
+over-file : (name : EditionName) (file : List ℕ) (t : Trailer) (reader : Reader) → length file < 2 ^ 64 → now (reader .file) ≡ file → reader .place .at ≡ 0 →
+    firstNo (trailerQuestions (length file) (tailOf file)) ≡ None → t ≡ trailerOf (length file) (tailOf file) → t .edition ≡ name → Handed name file t reader
+over-file name file t reader bound fe pe h te is =
     let ne : nameOf (tailOf file) ≡ name = sym (ap (λ (x : Trailer). x .edition) te) ∙ is in
     let c : t .count ≡ countOf (formatOf name) (tailOf file) =
-    ap (λ (x : Trailer). x .count) te ∙ ap (λ (k : EditionName). countOf (formatOf k) (tailOf file)) ne in
+        ap (λ (x : Trailer). x .count) te ∙ ap (λ (k : EditionName). countOf (formatOf k) (tailOf file)) ne in
     let n : t .note ≡ noteLength (formatOf name) (length file) (tailOf file) =
-    ap (λ (x : Trailer). x .note) te ∙ ap (λ (k : EditionName). noteLength (formatOf k) (length file) (tailOf file)) ne in
+        ap (λ (x : Trailer). x .note) te ∙ ap (λ (k : EditionName). noteLength (formatOf k) (length file) (tailOf file)) ne in
+    let f : Fits (formatOf name) (t .count) file = subst (λ (k : ℕ). Fits (formatOf name) k file) (sym c) (trailer-fits name file bound ne h) in
     record {
-      named = ne;
-      counted = c;
-      noted = n;
-      fits = subst (λ (k : ℕ). Fits (formatOf name) k file) (sym c) (trailer-fits name file bound ne h);
+      fits = subst (Fits (formatOf name) (t .count)) (sym fe) f;
+      note = n ∙ ap (λ (x : List ℕ). noteLength (formatOf name) (length x) (tailOf x)) (sym fe);
+      start = pe;
+      close = ap (λ (x : List ℕ). length x - 12) (sym fe);
+      whole = λ r s. whole-file name (t .count) file r ne c h (same-file (formatOf name) (t .count) file (now (reader .file)) r fe s);
     }
+
+-- A new reader that has looked at an accepted trailer.
+pub handed : (name : EditionName) (file : List ℕ) (t : Trailer) (new reader : Reader) → length file < 2 ^ 64 → now (new .file) ≡ file → new .place .at ≡ 0 → reader ≡ new →
+    Ok t ≡ verdict (firstNo (trailerQuestions (length (now (new .file))) (tailOf (now (new .file))))) (trailerOf (length (now (new .file))) (tailOf (now (new .file)))) →
+    t .edition ≡ name → Handed name file t reader
+handed name file t new reader bound fe pe re h is =
+    let p = trailer-read (now (new .file)) file t fe h in
+    over-file name file t reader bound (ap (λ (x : Reader). now (x .file)) re ∙ fe) (ap (λ (x : Reader). x .place .at) re ∙ pe) (p .0) (p .1) is
 
 -- A table that was read is the file's tree, and every question was answered yes.
 pub table-read : (file : List ℕ) (table : Table) → TableRead file (Ok table) → (firstNo (questions file) ≡ None) × (table ≡ tabled (treeIn file))
