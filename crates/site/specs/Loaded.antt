@@ -5,7 +5,9 @@ use mathlib.Core.List.{List}
 use Prim.Native.Nat.{ℕ}
 use Rattle.std.specs.Results.{isOk}
 use Rattle.std.specs.declared.result.Result.{Result}
-use Rattle.terrain.specs.Ask.{firstNo, verdict}
+use Rattle.std.specs.declared.result.Result.the-variants.{Ok, Err}
+use Rattle.std.specs.declared.option.Option.the-variants.{Some, None}
+use Rattle.terrain.specs.Ask.{FirstNo, firstNo, verdict}
 use Rattle.terrain.specs.declared.refusal.Refusal.{Refusal}
 use Rattle.water.specs.Tree.{Tree, dried}
 use Rattle.water.specs.Formed.{Formed}
@@ -37,3 +39,17 @@ pub record TableRead (file : List ℕ) (r : Result Table Refusal) : Type 0 where
   pub formed : isOk r ≡ true → Formed (treeIn file)
   pub dry : isOk r ≡ true → dried (treeIn file) ≡ treeIn file
   pub spelled : isOk r ≡ true → postorder (treeIn file) ≡ recordsIn (formatIn file) file (countIn file)
+
+-- The two answers of loading.
+abbrev pub accepts : Result (Unit {0}) Refusal
+accepts = Ok tt
+
+abbrev pub refuses : Refusal → Result (Unit {0}) Refusal
+refuses refusal = Err refusal
+
+-- The same of a whole site: what an accepted file leaves, or the first question answered no.
+abbrev pub SiteRead : List ℕ → Result Site Refusal → Type 0
+SiteRead file (Ok site) =
+    (accepts ≡ verdict (firstNo (questions file)) tt) × FirstNo (questions file) None × Loaded file site
+SiteRead file (Err refusal) =
+    (refuses refusal ≡ verdict (firstNo (questions file)) tt) × FirstNo (questions file) (Some refusal)

@@ -39,7 +39,8 @@ impl<'a> Reader<'a> {
     pub fn place(&self) -> usize
         ensures { λ r. ⌜ r ≡ now (self .entry) .place .at ⌝ }
     {
-        self.place.at
+        let Place { at } = self.place;
+        at
     }
 
     /// What the trailer says, or the first of its questions answered no. The reader stays where it stands.

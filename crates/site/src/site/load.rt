@@ -1,5 +1,5 @@
 // Loading a terrain file into a site.
-ghost use Rattle.site.specs.Loaded.{Loaded, TableRead};
+ghost use Rattle.site.specs.Loaded.{Loaded, SiteRead, TableRead};
 ghost use Rattle.site.specs.Questions.{questions};
 ghost use Rattle.std.specs.Results.{isOk};
 ghost use Rattle.terrain.specs.Ask.{FirstNo, firstNo, refusalIn, verdict};
@@ -32,6 +32,18 @@ fn read_table(file: &[u8]) -> Result<Table, Refusal>
     }
 }
 
+// The site that a whole file spells, dry, with all sums zero, or the first question answered no.
+fn read_site(file: &[u8]) -> Result<Site, Refusal>
+    ensures { λ r. ⌜ SiteRead (now (file .entry)) r ⌝ }
+{
+    let table = read_table(file)?;
+    Ok(Site {
+        table,
+        accepted: 0,
+        pumped: 0,
+    })
+}
+
 impl Site {
     /// Loads the site that a file spells, dry, with all sums zero; a refused file changes nothing.
     pub fn load(&mut self, file: &[u8]) -> Result<(), Refusal>
@@ -40,10 +52,12 @@ impl Site {
         ensures loaded { λ r. ⌜ (isOk r ≡ true → Loaded (now (file .entry)) (now (self .exit))) ⌝ }
         ensures kept { λ r. ⌜ (isOk r ≡ false → now (self .exit) ≡ now (self .entry)) ⌝ }
     {
-        let table = read_table(file)?;
-        self.table = table;
-        self.accepted = 0;
-        self.pumped = 0;
-        Ok(())
+        match read_site(file) {
+            Err(refusal) => Err(refusal),
+            Ok(site) => {
+                *self = site;
+                Ok(())
+            }
+        }
     }
 }
