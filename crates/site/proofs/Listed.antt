@@ -68,12 +68,12 @@ spells-back (merge n o x c p q l r) b rest w h d =
     let dr : dried r ≡ r = cc in
     let m : Record = record { kind = Merge; left = p; right = q; own = o } in
     ap (λ (s : List Record). spelledFrom b s w)
-      (append-assoc (postorder l ++ postorder r) (m ∷ []) rest ∙ append-assoc (postorder l) (postorder r) (m ∷ rest))
+    (append-assoc (postorder l ++ postorder r) (m ∷ []) rest ∙ append-assoc (postorder l) (postorder r) (m ∷ rest))
     ∙ spells-back l b (postorder r ++ (m ∷ rest)) w (h .0) dl
     ∙ ap (λ (k : ℕ). spelledFrom k (postorder r ++ (m ∷ rest)) (l ∷ w)) (sym (h .1))
     ∙ spells-back r c (m ∷ rest) (l ∷ w) (h .2) dr
     ∙ ap (λ (t : Tree). spelledFrom (c + size r + 1) rest (t ∷ w))
-      (ap (λ (k : ℕ). merge k o 0 (first r) p q l r) (sym (h .3)) ∙ ap (λ (k : ℕ). merge n o 0 k p q l r) (first-is r c (h .2)) ∙ ap (λ (k : ℕ). merge n o k c p q l r) (sym z))
+    (ap (λ (k : ℕ). merge k o 0 (first r) p q l r) (sym (h .3)) ∙ ap (λ (k : ℕ). merge n o 0 k p q l r) (first-is r c (h .2)) ∙ ap (λ (k : ℕ). merge n o k c p q l r) (sym z))
     ∙ ap (λ (k : ℕ). spelledFrom k rest (merge n o x c p q l r ∷ w)) (omega (arith, h .1))
 
 -- Two dry trees with the same records in postorder are one.

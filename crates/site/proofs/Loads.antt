@@ -100,9 +100,9 @@ over-file : (name : EditionName) (file : List ℕ) (t : Trailer) (reader : Reade
 over-file name file t reader bound fe pe h te is =
     let ne : nameOf (tailOf file) ≡ name = sym (ap (λ (x : Trailer). x .edition) te) ∙ is in
     let c : t .count ≡ countOf (formatOf name) (tailOf file) =
-        ap (λ (x : Trailer). x .count) te ∙ ap (λ (k : EditionName). countOf (formatOf k) (tailOf file)) ne in
+    ap (λ (x : Trailer). x .count) te ∙ ap (λ (k : EditionName). countOf (formatOf k) (tailOf file)) ne in
     let n : t .note ≡ noteLength (formatOf name) (length file) (tailOf file) =
-        ap (λ (x : Trailer). x .note) te ∙ ap (λ (k : EditionName). noteLength (formatOf k) (length file) (tailOf file)) ne in
+    ap (λ (x : Trailer). x .note) te ∙ ap (λ (k : EditionName). noteLength (formatOf k) (length file) (tailOf file)) ne in
     let f : Fits (formatOf name) (t .count) file = subst (λ (k : ℕ). Fits (formatOf name) k file) (sym c) (trailer-fits name file bound ne h) in
     record {
       fits = subst (Fits (formatOf name) (t .count)) (sym fe) f;

@@ -162,10 +162,10 @@ taken e n i at file said reader before after stack stack′ (Ok u) more few pe s
     let b₃ : Building after (stacked stack′) (waiting e file (i + 1)) = subst (λ (x : List Tree). Building after (stacked stack′) x) g b₂ in
     let y : AllYes (treeQuestions said at w) = all-yes (treeQuestions said at w) none′ in
     let v : volumeFits (said .kind) (said .own) ≡ true =
-        subst (λ (x : Record). volumeFits (x .kind) (x .own) ≡ true) (sym se) (volume-fits e (part file (startOf e file i) (e .recordLen)) (startOf e file i) re) in
+    subst (λ (x : Record). volumeFits (x .kind) (x .own) ≡ true) (sym se) (volume-fits e (part file (startOf e file i) (e .recordLen)) (startOf e file i) re) in
     let ls : listed (waiting e file (i + 1)) ≡ recordsIn e file (i + 1) =
-        ap listed (sym g) ∙ listed-more (before .count) said w (y .0) (y .1 .0) v ∙ ap (λ (x : Record). listed w ++ (x ∷ [])) se
-        ∙ ap (λ (x : List Record). x ++ (recordIn e file i ∷ [])) list ∙ ap (recordsIn e file) (sym (add-one i)) in
+    ap listed (sym g) ∙ listed-more (before .count) said w (y .0) (y .1 .0) v ∙ ap (λ (x : Record). listed w ++ (x ∷ [])) se
+    ∙ ap (λ (x : List Record). x ++ (recordIn e file i ∷ [])) list ∙ ap (recordsIn e file) (sym (add-one i)) in
     let c : after .count ≡ i + 1 = ap (λ (x : Table). x .count) (ta refl) ∙ ap (λ (k : ℕ). k + 1) ce in
     reached-with e n (i + 1) file reader after stack′ fe (place ∙ sym (next-start e file i)) c b₃ ls
     (asked ∙ passed-record e n i file more re (ap firstNo (sym q) ∙ none)) room

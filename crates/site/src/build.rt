@@ -11,9 +11,9 @@ use crate::node::Summary;
 use crate::table::PLACES;
 use crate::table::Table;
 use byte_order::Edition;
+use stack::Stack;
 use terrain::Reader;
 use terrain::Refusal;
-use stack::Stack;
 use terrain::Trailer;
 
 /// Reads the note and the records that the trailer names; `end` is where the trailer starts.

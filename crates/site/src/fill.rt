@@ -7,9 +7,9 @@ use crate::grow::grow;
 use crate::node::Summary;
 use crate::table::Table;
 use byte_order::Edition;
+use stack::Stack;
 use terrain::Reader;
 use terrain::Refusal;
-use stack::Stack;
 
 // Puts record i of `count` into the table, if its questions are all answered yes.
 fn take_record<E: Edition>(

@@ -14,10 +14,10 @@ ghost use mathlib.Core.Path.{_≡_};
 use crate::node::Node;
 use crate::node::Summary;
 use crate::table::Table;
+use stack::Stack;
 use terrain::Kind;
 use terrain::Record;
 use terrain::Refusal;
-use stack::Stack;
 
 // A merge joins the two subtrees that were finished last.
 fn merge(

@@ -8,13 +8,13 @@ ghost use Rattle.terrain.specs.Trailer.{tailOf, trailerOf, trailerQuestions};
 ghost use denote.Ref.{now as held};
 ghost use lib.ListN.{length};
 ghost use mathlib.Core.Path.{_≡_};
-use byte_order::Edition;
 use crate::place::Look;
 use crate::place::Place;
 use crate::record::Record;
 use crate::refusal::Refusal;
 use crate::trailer::TRAILER_LEN;
 use crate::trailer::Trailer;
+use byte_order::Edition;
 
 /// The lent bytes of a file, and the place up to which they are read.
 #[derive(Drop)]

@@ -8,8 +8,8 @@ ghost use lib.ListN.{length};
 ghost use mathlib.Core.Bool.{cond, _&&_};
 ghost use mathlib.Core.Path.{_≡_};
 ghost use Rattle.std.specs.declared.option.Option.the-variants.{Some, None};
-use byte_order::Edition;
 use crate::refusal::Refusal;
+use byte_order::Edition;
 
 /// What a record stands for.
 #[derive(Clone, Copy)]

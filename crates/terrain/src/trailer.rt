@@ -7,12 +7,12 @@ ghost use Rattle.terrain.specs.Trailer.{countQuestions, nameOf, signed, traile
 ghost use mathlib.Core.Bool.{cond};
 ghost use lib.ListN.{length};
 ghost use mathlib.Core.Path.{_≡_};
+use crate::refusal::Refusal;
 use byte_order::Edition;
 use byte_order::Edition1;
 use byte_order::Edition2;
 use byte_order::NewClient;
 use byte_order::OldClient;
-use crate::refusal::Refusal;
 
 pub const TRAILER_LEN: usize = 12;
 

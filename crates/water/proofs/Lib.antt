@@ -1,0 +1,10 @@
+pub mod Steps
+pub mod Order
+pub mod Shape
+pub mod Keep
+pub mod Room
+pub mod Sums
+pub mod Numbers
+pub mod Walk
+pub mod Depressions
+pub mod Levels

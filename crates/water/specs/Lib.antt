@@ -1,3 +1,11 @@
 pub mod Tree
 pub mod Formed
 pub mod Sound
+pub mod Water
+pub mod Parts
+pub mod Pour
+pub mod Laws
+pub mod Rains
+pub mod Litre
+pub mod Depression
+pub mod Level

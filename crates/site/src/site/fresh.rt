@@ -2,8 +2,8 @@
 ghost use Rattle.site.specs.Held.{tabled};
 ghost use Rattle.water.specs.Tree.{outlet};
 ghost use mathlib.Core.Path.{_≡_};
-use crate::table::Table;
 use super::Site;
+use crate::table::Table;
 
 impl Site {
     /// The outlet alone, dry, in place 0.

@@ -3,10 +3,10 @@ ghost use Rattle.site.specs.Held.{tabled};
 ghost use Rattle.site.specs.Records.{records};
 ghost use Rattle.water.specs.Tree.{Tree, height, volume};
 ghost use mathlib.Core.Path.{_≡_};
+use super::Site;
 use crate::measure::total_volume;
 use crate::measure::tree_height;
 use crate::node::Node;
-use super::Site;
 
 impl Site {
     /// The records in order, numbered from 0.

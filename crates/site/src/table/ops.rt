@@ -6,9 +6,9 @@ ghost use Rattle.water.specs.Tree.{outlet};
 ghost use Rattle.site.specs.declared.node.Node.the-variants.{Unused};
 ghost use lib.ListN.{replicate, set, take};
 ghost use mathlib.Core.Path.{_≡_};
-use crate::node::Node;
 use super::PLACES;
 use super::Table;
+use crate::node::Node;
 
 impl Table {
     // A table with every place unused.

@@ -22,10 +22,10 @@ returns c =
     let file = c .args .file .now in
     let h = c .in-Continue-table .ensures tt in
     let p = table-read file (c .in-Continue-table .table) h in
-    let a : accepts ≡ verdict (firstNo (questions file)) tt = ap (λ (o : Option Refusal). verdict o tt) (sym (p .0)) in
-    ( a
-    , answer-in-words file accepts a
-    , record {
+    let a : accepts ≡ verdict (firstNo (questions file)) tt = ap (λ (o : Option Refusal). verdict o tt) (sym (p .0)) in (
+      a,
+      answer-in-words file accepts a,
+      record {
         table = p .1;
         formed = h .formed refl;
         dry = h .dry refl;
@@ -33,7 +33,8 @@ returns c =
         only = only-tree file (h .formed refl) (h .dry refl) (h .spelled refl);
         accepted = refl;
         pumped = refl;
-      })
+      },
+    )
 
 pub returns-in-Break-table : need.returns-in-Break-table
 returns-in-Break-table c =
