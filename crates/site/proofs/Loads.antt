@@ -5,6 +5,7 @@ use mathlib.Core.List.{List, [], _∷_, _++_}
 use Prim.Native.Nat.{ℕ, _+_, _-_, _*_, _≤_, _<_, _^_}
 use native.Mathlib.Omega.{arith}
 use denote.Ref.{now}
+use lib.Dec.{eqb, leb}
 use lib.ListN.{length}
 use Rattle.std.specs.Results.{isOk}
 use Rattle.std.specs.declared.option.Option.{Option}
@@ -42,8 +43,8 @@ trailer-fits name file bound ne h =
     let tail : List ℕ = tailOf file in
     let y : AllYes (trailerQuestions (length file) tail) = all-yes (trailerQuestions (length file) tail) h in
     let twelve : 12 ≤ length file = leb-true _ _ (y .0) in
-    let count = and-parts _ _ (y .1 .1 .1 .0) in
-    let distance = and-parts _ _ (y .1 .1 .1 .1 .0) in
+    let count : (leb 1 (countOf e tail) ≡ true) × (leb (countOf e tail) 1023 ≡ true) = and-parts _ _ (y .1 .1 .1 .0) in
+    let distance : (eqb (distanceOf e tail) (countOf e tail * e .recordLen) ≡ true) × (leb (distanceOf e tail) (length file - 12) ≡ true) = and-parts _ _ (y .1 .1 .1 .1 .0) in
     let d : distanceOf e tail ≡ countOf e tail * e .recordLen = eqb-true _ _ (distance .0) in
     let w : distanceOf e tail ≤ length file - 12 = leb-true _ _ (distance .1) in
     let m : countOf e tail ≤ 1023 = leb-true _ _ (count .1) in

@@ -1,8 +1,9 @@
 // The table of a site's records.
 use crate::node::Node;
+use terrain::MOST_RECORDS;
 
 /// How many records a site has at most.
-pub const PLACES: usize = 1023;
+pub const PLACES: usize = MOST_RECORDS as usize;
 
 /// The records of a site in order, numbered from 0, and how many there are.
 #[derive(Clone, Copy)]

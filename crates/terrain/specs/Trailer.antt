@@ -19,11 +19,11 @@ tailOf file = drop (length file - 12) file
 -- F, T, the digit of an edition, and 0A.
 abbrev pub signed : List ℕ → Bool
 signed bytes =
-    eqb (getD bytes 0 0) 70 && (eqb (getD bytes 1 0) 84 && ((eqb (getD bytes 2 0) 49 || eqb (getD bytes 2 0) 50) && eqb (getD bytes 3 0) 10))
+    eqb (getD bytes 0 0) 70 && (eqb (getD bytes 1 0) 84 && ((eqb (getD bytes 2 0) (edition1 .digit) || eqb (getD bytes 2 0) (edition2 .digit)) && eqb (getD bytes 3 0) 10))
 
 -- The edition that the digit names.
 abbrev pub nameOf : List ℕ → EditionName
-nameOf tail = cond (eqb (getD tail 10 0) 49) First Second
+nameOf tail = cond (eqb (getD tail 10 0) (edition1 .digit)) First Second
 
 abbrev pub formatOf : EditionName → Format
 formatOf First = edition1

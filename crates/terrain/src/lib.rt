@@ -11,5 +11,6 @@ pub use record::Record;
 pub use refusal::Layer;
 pub use refusal::Refusal;
 pub use trailer::EditionName;
+pub use trailer::MOST_RECORDS;
 pub use trailer::TRAILER_LEN;
 pub use trailer::Trailer;

@@ -2,8 +2,6 @@
 ghost use Rattle.water.specs.Depression.{DepressionLaw};
 
 // Within its free volume rain stays in a depression; more leaves it full and only the rest outside.
-pub fn rain_stays_in_a_depression_with_room() -> bool
+pub fn rain_stays_in_a_depression_with_room()
     ensures { λ _. ⌜ DepressionLaw ⌝ }
-{
-    true
-}
+{}
