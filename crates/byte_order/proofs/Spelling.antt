@@ -4,19 +4,18 @@ use Rattle.std.proofs.shelf.Bits.{div-below, mod-below}
 use Rattle.std.proofs.shelf.Counted.{fill-by-all}
 use Rattle.std.proofs.shelf.Elements.{all-from-getD, all-push}
 use Rattle.std.proofs.shelf.Lists.{length-reverse, reverse-reverse}
-use Rattle.std.specs.Iters.{counting}
-use Rattle.byte_order.specs.Bytes.{Bytes, big, bigBytes, little, littleBytes}
+use Rattle.byte_order.specs.Bytes.{Bytes, big, bigBytes, each, little, littleBytes}
 use lib.ListN.{length, getD}
-use mathlib.Core.List.{List, [], _∷_, map, reverse, reverse-cons}
+use mathlib.Core.List.{List, [], _∷_, reverse, reverse-cons}
 use mathlib.Core.Path.{_≡_, refl, sym, ap, _∙_}
 use mir.Syntax.{w8}
 use mir.Val.{Fits}
 use native.Mathlib.Nat.{pow-suc}
 use native.Mathlib.Omega.{arith}
 
--- A list of known length is its elements, written out.
-pub listed : (bs : List ℕ) (n : ℕ) → length bs ≡ n → bs ≡ map (λ k. getD bs k 0) (counting 0 n)
-listed bs n e = fill-by-all (λ k. getD bs k 0) bs n 0 e (λ k h. refl)
+-- A list of known length is its bytes, one by one.
+pub listed : (bs : List ℕ) (n : ℕ) → length bs ≡ n → each n bs ≡ bs
+listed bs n e = sym (fill-by-all (λ k. getD bs k 0) bs n 0 e (λ k h. refl))
 
 -- What a slice or an array of bytes holds are bytes.
 pub bytes-typed : (bs : List ℕ) → ((i : ℕ) → Fits w8 (getD bs i 0)) → Bytes bs

@@ -69,9 +69,9 @@ pub impl Edition for LittleEndian as OldClient {
     }
 
     fn volume(field: &[u8]) -> Option<u64> {
-        match field {
-            [a, b, c, d] => Some(Self::read_u32([*a, *b, *c, *d]) as u64),
-            _ => None,
+        match <[u8; 4]>::try_from(field) {
+            Ok(bytes) => Some(Self::read_u32(bytes) as u64),
+            Err(_) => None,
         }
     }
 }
@@ -98,9 +98,9 @@ pub impl Edition for BigEndian as NewClient {
     }
 
     fn volume(field: &[u8]) -> Option<u64> {
-        match field {
-            [a, b, c, d, e, f, g, h] => Some(Self::read_u64([*a, *b, *c, *d, *e, *f, *g, *h])),
-            _ => None,
+        match <[u8; 8]>::try_from(field) {
+            Ok(bytes) => Some(Self::read_u64(bytes)),
+            Err(_) => None,
         }
     }
 }

@@ -1,6 +1,6 @@
 // The order in which a number's bytes stand: both directions, each undoing the other.
 ghost use Prim.Native.Nat.{ℕ, _<_, _^_};
-ghost use Rattle.byte_order.specs.Bytes.{Bytes, big, bigBytes, little, littleBytes};
+ghost use Rattle.byte_order.specs.Bytes.{Bytes, big, bigBytes, each, little, littleBytes};
 ghost use lib.ListN.{length};
 ghost use mathlib.Core.List.{List};
 ghost use mathlib.Core.Path.{_≡_};
@@ -53,6 +53,13 @@ pub trait ByteOrder {
         ensures answer { λ r. ⌜ r ≡ spelling 8 n ⌝ };
 }
 
+// The same bytes, told one by one, so that what they spell computes.
+fn one_by_one<const N: usize>(field: [u8; N]) -> [u8; N]
+    ensures { λ r. ⌜ each N r ≡ field .entry ⌝ }
+{
+    field
+}
+
 // The least significant byte stands first.
 #[derive(Clone, Copy)]
 pub struct LittleEndian;
@@ -64,15 +71,15 @@ pub impl ByteOrder for LittleEndian as LittleEndianOrder {
     ghost spelling = { littleBytes };
 
     fn read_u16(field: [u8; 2]) -> u16 {
-        u16::from_le_bytes(field)
+        u16::from_le_bytes(one_by_one(field))
     }
 
     fn read_u32(field: [u8; 4]) -> u32 {
-        u32::from_le_bytes(field)
+        u32::from_le_bytes(one_by_one(field))
     }
 
     fn read_u64(field: [u8; 8]) -> u64 {
-        u64::from_le_bytes(field)
+        u64::from_le_bytes(one_by_one(field))
     }
 
     fn write_u16(n: u16) -> [u8; 2] {
@@ -99,15 +106,15 @@ pub impl ByteOrder for BigEndian as BigEndianOrder {
     ghost spelling = { bigBytes };
 
     fn read_u16(field: [u8; 2]) -> u16 {
-        u16::from_be_bytes(field)
+        u16::from_be_bytes(one_by_one(field))
     }
 
     fn read_u32(field: [u8; 4]) -> u32 {
-        u32::from_be_bytes(field)
+        u32::from_be_bytes(one_by_one(field))
     }
 
     fn read_u64(field: [u8; 8]) -> u64 {
-        u64::from_be_bytes(field)
+        u64::from_be_bytes(one_by_one(field))
     }
 
     fn write_u16(n: u16) -> [u8; 2] {

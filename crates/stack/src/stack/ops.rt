@@ -1,8 +1,9 @@
 // What can be done with a stack.
-ghost use Prim.Native.Nat.{_≤_};
+ghost use Prim.Native.Nat.{_<_, _≤_};
 ghost use Rattle.stack.specs.Stack.{Popped, Pushed, capacity, newest, stacked};
+ghost use Rattle.std.specs.declared.option.Option.the-variants.{Some};
 ghost use lib.ListN.{length};
-ghost use mathlib.Core.List.{[]};
+ghost use mathlib.Core.List.{[], _∷_, reverse};
 ghost use mathlib.Core.Path.{_≡_};
 use super::Stack;
 
@@ -20,7 +21,7 @@ impl<'a, T: Copy> Stack<'a, T> {
         ensures answer { λ r. ⌜ r ≡ length (stacked (now (self .entry))) ⌝ }
         ensures within { λ r. ⌜ r ≤ capacity (now (self .entry)) ⌝ }
     {
-        self.count
+        self.filled().len()
     }
 
     // Puts an item on top, or gives it back where the stack is full.
@@ -28,11 +29,10 @@ impl<'a, T: Copy> Stack<'a, T> {
         ensures items { λ r. ⌜ Pushed item (capacity (now (self .entry))) (stacked (now (self .entry))) r (stacked (now (self .exit))) ⌝ }
         ensures room { λ _. ⌜ capacity (now (self .exit)) ≡ capacity (now (self .entry)) ⌝ }
     {
-        if self.count == self.items.len() {
+        if self.filled().len() == self.items.len() {
             return Err(item);
         }
-        self.items[self.count] = item;
-        self.count += 1;
+        self.put(item);
         Ok(())
     }
 
@@ -44,18 +44,58 @@ impl<'a, T: Copy> Stack<'a, T> {
         if self.count == 0 {
             return None;
         }
-        self.count -= 1;
-        Some(self.items[self.count])
+        Some(self.take())
     }
 
     // The newest item, which stays.
     pub fn top(&self) -> Option<T>
         ensures answer { λ r. ⌜ r ≡ newest (stacked (now (self .entry))) ⌝ }
     {
-        let items: &[T] = self.items;
         if self.count == 0 {
             return None;
         }
-        Some(items[self.count - 1])
+        Some(self.last())
+    }
+}
+
+// What is done on the places of the slice, once it is known that there is an item or a free place.
+impl<'a, T: Copy> Stack<'a, T> {
+    // The places that hold an item, the oldest first.
+    fn filled(&self) -> &[T]
+        ensures items { λ r. ⌜ stacked (now (self .entry)) ≡ reverse (now r) ⌝ }
+        ensures size { λ r. ⌜ length (stacked (now (self .entry))) ≡ length (now r) ⌝ }
+        ensures count { λ r. ⌜ now (self .entry) .count ≡ length (now r) ⌝ }
+    {
+        let items: &[T] = self.items;
+        &items[..self.count]
+    }
+
+    // Fills the next free place.
+    fn put(&mut self, item: T)
+        requires { ⌜ now self .count < capacity (now self) ⌝ }
+        ensures items { λ _. ⌜ stacked (now (self .exit)) ≡ item ∷ stacked (now (self .entry)) ⌝ }
+        ensures room { λ _. ⌜ capacity (now (self .exit)) ≡ capacity (now (self .entry)) ⌝ }
+    {
+        self.items[self.count] = item;
+        self.count += 1;
+    }
+
+    // Frees the last place that holds an item.
+    fn take(&mut self) -> T
+        requires { ⌜ 0 < now self .count ⌝ }
+        ensures items { λ r. ⌜ stacked (now (self .entry)) ≡ r ∷ stacked (now (self .exit)) ⌝ }
+        ensures room { λ _. ⌜ capacity (now (self .exit)) ≡ capacity (now (self .entry)) ⌝ }
+    {
+        self.count -= 1;
+        self.items[self.count]
+    }
+
+    // What the last place that holds an item holds.
+    fn last(&self) -> T
+        requires { ⌜ 0 < now self .count ⌝ }
+        ensures answer { λ r. ⌜ newest (stacked (now (self .entry))) ≡ Some r ⌝ }
+    {
+        let items: &[T] = self.items;
+        items[self.count - 1]
     }
 }

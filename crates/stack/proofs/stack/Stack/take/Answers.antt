@@ -1,13 +1,12 @@
 use Rattle.stack.proofs.Stacked.{stacked-last}
 use Rattle.stack.specs.Stack.{capacity}
 use mathlib.Core.Path.{refl}
-use native.Mathlib.Omega.{arith}
-use Rattle.stack.proofs.stack.Stack.pop.Needs as need
+use Rattle.stack.proofs.stack.Stack.take.Needs as need
 
 pub returns : need.returns
 returns g c =
     let s = c .args .self .now in
     record {
-      items = stacked-last (s .items .now) (s .count) (c .index-self-self .result) (omega arith) (s .within);
+      items = stacked-last (s .items .now) (s .count) (c .index-self-self .result) (c .pre) (s .within);
       room = refl {a = capacity s};
     }
