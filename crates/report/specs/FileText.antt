@@ -19,6 +19,7 @@ abbrev pub acceptedText : List ℕ → List ℕ
 acceptedText file =
     siteText (nameOf (tailOf file)) (noteLength (formatIn file) (length file) (tailOf file)) (records (treeIn file)) (volume (treeIn file)) (height (treeIn file))
 
+-- The text that the answer of loading leads to.
 abbrev pub textFor : Option Refusal → List ℕ → List ℕ
 textFor None file = acceptedText file
 textFor (Some refusal) file = refusalText refusal

@@ -33,9 +33,11 @@ abbrev pub Ready : List Tree → Type 0
 Ready [] = Unit {0}
 Ready (t ∷ w) = Shaped t × (dried t ≡ t) × Ready w
 
+-- What the loader keeps of a subtree.
 abbrev pub summaryOf : Tree → Summary
 summaryOf t = record { first = first t; outlets = outlets t }
 
+-- The table holds their records and nothing else, and the summaries are theirs.
 pub record Building (table : Table) (summaries : List Summary) (w : List Tree) : Type 0 where
   pub holds : table .nodes ≡ written w ++ replicate (1023 - table .count) Unused
   pub lined : Lined (table .count) w

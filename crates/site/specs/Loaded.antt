@@ -40,10 +40,11 @@ pub record TableRead (file : List ℕ) (r : Result Table Refusal) : Type 0 where
   pub dry : isOk r ≡ true → dried (treeIn file) ≡ treeIn file
   pub spelled : isOk r ≡ true → postorder (treeIn file) ≡ recordsIn (formatIn file) file (countIn file)
 
--- The two answers of loading.
+-- Loading that is accepted.
 abbrev pub accepts : Result (Unit {0}) Refusal
 accepts = Ok tt
 
+-- Loading that is refused.
 abbrev pub refuses : Refusal → Result (Unit {0}) Refusal
 refuses refusal = Err refusal
 

@@ -1,10 +1,15 @@
 -- The loader's view of the tree that it builds: the table and the summaries of the subtrees that wait.
+use mathlib.Core.Path.{_≡_}
 use mathlib.Core.Bool.{Bool, true, false, not, _&&_, _||_}
 use mathlib.Core.List.{List, [], _∷_}
 use Prim.Native.Nat.{ℕ, _+_, min}
 use lib.Dec.{eqb, leb, ltb}
 use lib.ListN.{length, getD, set}
-use Rattle.terrain.specs.Ask.{Question, ask}
+use Rattle.std.specs.Results.{isOk}
+use Rattle.std.specs.declared.result.Result.{Result}
+use Rattle.stack.specs.Stack.{capacity, stacked}
+use Rattle.stack.specs.declared.stack.Stack.{Stack}
+use Rattle.terrain.specs.Ask.{Question, ask, firstNo, verdict}
 use Rattle.terrain.specs.declared.record.Kind.{Kind}
 use Rattle.terrain.specs.declared.record.Kind.the-variants.{Basin, Merge, Outlet}
 use Rattle.terrain.specs.declared.record.Record.{Record}
@@ -26,17 +31,20 @@ leafNode (MergeNode o w c a b) = false
 abbrev pub leafAmong : List Node → ℕ → ℕ → ℕ → Bool
 leafAmong nodes k from to = leb from k && (ltb k to && (ltb k 1023 && leafNode (getD nodes k Unused)))
 
+-- A merge needs two summaries that wait.
 abbrev pub enoughSeen : Kind → List Summary → Bool
 enoughSeen Basin s = true
 enoughSeen Outlet s = true
 enoughSeen Merge s = leb 2 (length s)
 
+-- A merge lands on a leaf among the records of each side.
 abbrev pub sidesSeen : Table → Record → List Summary → Bool
 sidesSeen t rec [] = false
 sidesSeen t rec (r ∷ []) = false
 sidesSeen t rec (r ∷ l ∷ s) =
     leafAmong (t .nodes) (rec .left) (l .first) (r .first) && leafAmong (t .nodes) (rec .right) (r .first) (t .count)
 
+-- Leaves have landings 0.
 abbrev pub landedSeen : Kind → Table → Record → List Summary → Bool
 landedSeen Basin t rec s = eqb (rec .left) 0 && eqb (rec .right) 0
 landedSeen Outlet t rec s = eqb (rec .left) 0 && eqb (rec .right) 0
@@ -48,6 +56,7 @@ outletsSeen [] = 0
 outletsSeen (r ∷ []) = 0
 outletsSeen (r ∷ l ∷ s) = min (l .outlets + r .outlets) 65535
 
+-- An open merge has no volume.
 abbrev pub openSeen : Kind → Record → List Summary → Bool
 openSeen Basin rec s = true
 openSeen Outlet rec s = true
@@ -76,6 +85,7 @@ nodeFor Merge rec s = MergeNode (rec .own) 0 (cutSeen s) (rec .left) (rec .right
 abbrev pub tableAfter : Table → Record → List Summary → Table
 tableAfter t rec s = record { nodes = set (t .nodes) (t .count) (nodeFor (rec .kind) rec s); count = t .count + 1 }
 
+-- A merge takes the place of the two newest.
 abbrev pub mergedSummaries : List Summary → List Summary
 mergedSummaries [] = []
 mergedSummaries (r ∷ []) = r ∷ []
@@ -87,6 +97,7 @@ summariesAfter Basin i s = record { first = i; outlets = 0 } ∷ s
 summariesAfter Outlet i s = record { first = i; outlets = 1 } ∷ s
 summariesAfter Merge i s = mergedSummaries s
 
+-- The outlets of the newest subtree.
 abbrev pub newestOutlets : List Summary → ℕ
 newestOutlets [] = 0
 newestOutlets (r ∷ s) = r .outlets
@@ -97,3 +108,11 @@ endSeen at s =
     ask (eqb (length s) 1) (Subtrees (length s) at)
     ∷ ask (eqb (newestOutlets s) 1) (Outlets (newestOutlets s) at)
     ∷ []
+
+-- One record more, from one table and stack to the next: the answer to questions 10 to 12, and what stands there
+-- if they are all answered yes.
+pub record Grew (t u : Table) (s v : Stack Summary) (rec : Record) (at : ℕ) (r : Result (Unit {0}) Refusal) : Type 0 where
+  pub answer : r ≡ verdict (firstNo (questionsSeen t (stacked s) rec at)) tt
+  pub table : isOk r ≡ true → u ≡ tableAfter t rec (stacked s)
+  pub waiting : isOk r ≡ true → stacked v ≡ summariesAfter (rec .kind) (t .count) (stacked s)
+  pub room : capacity v ≡ capacity s

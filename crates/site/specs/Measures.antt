@@ -30,10 +30,12 @@ heightsAfter (Basin o w) s = 0 ∷ s
 heightsAfter (Outlet w) s = 0 ∷ s
 heightsAfter (Merge o w c a b) s = joinedHeights s
 
+-- The heights that wait after all the records of a list.
 abbrev pub heights : List Node → List ℕ → List ℕ
 heights [] s = s
 heights (x ∷ xs) s = heights xs (heightsAfter x s)
 
+-- The newest of the heights, or 0 where none waits.
 abbrev pub newestHeight : List ℕ → ℕ
 newestHeight [] = 0
 newestHeight (h ∷ s) = h

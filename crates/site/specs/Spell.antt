@@ -23,6 +23,7 @@ grownBy Basin i rec w = basin i (rec .own) 0 ∷ w
 grownBy Outlet i rec w = outlet i 0 ∷ w
 grownBy Merge i rec w = joined i rec w
 
+-- The same, by the record's own kind.
 abbrev pub grown : ℕ → Record → List Tree → List Tree
 grown i rec w = grownBy (rec .kind) i rec w
 
@@ -48,9 +49,11 @@ newest (t ∷ w) = t
 abbrev pub treeOf : Format → List ℕ → ℕ → Tree
 treeOf e file n = newest (waiting e file n)
 
+-- The edition of a file.
 abbrev pub formatIn : List ℕ → Format
 formatIn file = formatOf (nameOf (tailOf file))
 
+-- How many records a file has.
 abbrev pub countIn : List ℕ → ℕ
 countIn file = countOf (formatIn file) (tailOf file)
 

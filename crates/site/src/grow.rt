@@ -1,14 +1,13 @@
 // One record more on the tree that is being loaded.
 ghost use Prim.Native.Nat.{_+_, _^_, _<_};
-ghost use Rattle.site.specs.Loader.{endSeen, questionsSeen, summariesAfter, tableAfter};
-ghost use Rattle.std.specs.Results.{isOk};
+ghost use Rattle.site.specs.Loader.{Grew, endSeen};
 ghost use Rattle.terrain.specs.Ask.{ask, firstNo, verdict};
 ghost use Rattle.terrain.specs.declared.refusal.Refusal.the-variants.{Landings};
 ghost use Rattle.stack.specs.Stack.{capacity, stacked};
 ghost use Rattle.terrain.specs.declared.record.Kind.the-variants.{Merge};
 ghost use lib.ListN.{length};
 ghost use lib.Dec.{eqb};
-ghost use mathlib.Core.Bool.{true, _&&_};
+ghost use mathlib.Core.Bool.{_&&_};
 ghost use mathlib.Core.List.{[], _∷_};
 ghost use mathlib.Core.Path.{_≡_};
 use crate::node::Node;
@@ -29,10 +28,7 @@ fn merge(
     requires { ⌜ now said .kind ≡ Merge ⌝ }
     requires { ⌜ now table .count < 1023 ⌝ }
     requires { ⌜ at + 8 < 2 ^ 64 ⌝ }
-    ensures answer { λ r. ⌜ r ≡ verdict (firstNo (questionsSeen (now (table .entry)) (stacked (now (waiting .entry))) (now (said .entry)) at)) tt ⌝ }
-    ensures table { λ r. ⌜ (isOk r ≡ true → now (table .exit) ≡ tableAfter (now (table .entry)) (now (said .entry)) (stacked (now (waiting .entry)))) ⌝ }
-    ensures waiting { λ r. ⌜ (isOk r ≡ true → stacked (now (waiting .exit)) ≡ summariesAfter (now (said .entry) .kind) (now (table .entry) .count) (stacked (now (waiting .entry)))) ⌝ }
-    ensures room { λ _. ⌜ capacity (now (waiting .exit)) ≡ capacity (now (waiting .entry)) ⌝ }
+    ensures { λ r. ⌜ Grew (now (table .entry)) (now (table .exit)) (now (waiting .entry)) (now (waiting .exit)) (now (said .entry)) at r ⌝ }
 {
     let found = waiting.len();
     let Some(right) = waiting.pop() else {
@@ -57,6 +53,7 @@ fn merge(
             at: at + 8,
         });
     }
+    // There is room: two have just been taken off.
     let _ = waiting.push(Summary {
         first: left.first,
         outlets,
@@ -96,12 +93,10 @@ pub(crate) fn grow(
     requires { ⌜ now table .count < 1023 ⌝ }
     requires { ⌜ length (stacked (now waiting)) < capacity (now waiting) ⌝ }
     requires { ⌜ at + 8 < 2 ^ 64 ⌝ }
-    ensures answer { λ r. ⌜ r ≡ verdict (firstNo (questionsSeen (now (table .entry)) (stacked (now (waiting .entry))) (now (said .entry)) at)) tt ⌝ }
-    ensures table { λ r. ⌜ (isOk r ≡ true → now (table .exit) ≡ tableAfter (now (table .entry)) (now (said .entry)) (stacked (now (waiting .entry)))) ⌝ }
-    ensures waiting { λ r. ⌜ (isOk r ≡ true → stacked (now (waiting .exit)) ≡ summariesAfter (now (said .entry) .kind) (now (table .entry) .count) (stacked (now (waiting .entry)))) ⌝ }
-    ensures room { λ _. ⌜ capacity (now (waiting .exit)) ≡ capacity (now (waiting .entry)) ⌝ }
+    ensures { λ r. ⌜ Grew (now (table .entry)) (now (table .exit)) (now (waiting .entry)) (now (waiting .exit)) (now (said .entry)) at r ⌝ }
 {
     let first = table.count() as u16;
+    // There is room for a leaf, since no more subtrees wait than there are records before it.
     match said.kind {
         Kind::Merge => merge(table, waiting, said, at),
         Kind::Basin => {

@@ -2,7 +2,7 @@
 use crate::node::Node;
 use terrain::MOST_RECORDS;
 
-/// How many records a site has at most.
+/// A table has a place for each record that a site can have.
 pub const PLACES: usize = MOST_RECORDS as usize;
 
 /// The records of a site in order, numbered from 0, and how many there are.

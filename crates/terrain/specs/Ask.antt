@@ -12,6 +12,7 @@ pub record Question (R : Type 0) : Type 0 where
   pub yes : Bool
   pub refusal : R
 
+-- A question from its parts.
 abbrev pub ask : {R : Type 0} → Bool → R → Question R
 ask b r = record { yes = b; refusal = r }
 

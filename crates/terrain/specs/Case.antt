@@ -6,12 +6,14 @@ use Rattle.terrain.specs.declared.refusal.Layer.the-variants.{Trailer, Record,
 use Rattle.terrain.specs.declared.refusal.Refusal.{Refusal}
 use Rattle.terrain.specs.declared.refusal.Refusal.the-variants.{TooShort, Signature, TrailerZeros, Count, Distance, NoteLength, Kind, RecordZeros, Volume, Waiting, Landings, OpenVolume, Subtrees, Outlets}
 
+-- What a refusal tells.
 pub record Case : Type 0 where
   pub number : ℕ
   pub layer : Layer
   pub place : ℕ
   pub found : List ℕ
 
+-- A case from its parts.
 abbrev pub case : ℕ → Layer → ℕ → List ℕ → Case
 case n l p f = record { number = n; layer = l; place = p; found = f }
 

@@ -12,6 +12,7 @@ pub record Format : Type 0 where
   pub recordLen : ℕ
   pub number : List ℕ → ℕ
 
+-- An edition from its parts.
 abbrev pub format : ℕ → ℕ → (List ℕ → ℕ) → Format
 format digit recordLen number = record { digit = digit; recordLen = recordLen; number = number }
 

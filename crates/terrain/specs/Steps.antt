@@ -2,7 +2,8 @@
 use mathlib.Core.Path.{_≡_}
 use mathlib.Core.Bool.{Bool, cond}
 use mathlib.Core.List.{List}
-use Prim.Native.Nat.{ℕ, _+_}
+use Prim.Native.Nat.{ℕ, _+_, _<_, _^_}
+use denote.Ref.{now}
 use lib.Dec.{leb}
 use lib.ListN.{length}
 use Rattle.std.specs.declared.option.Option.{Option}
@@ -11,6 +12,7 @@ use Rattle.std.specs.declared.result.Result.{Result}
 use Rattle.terrain.specs.Ask.{firstNo, verdict}
 use Rattle.terrain.specs.Format.{Format, part}
 use Rattle.terrain.specs.Record.{recordOf, recordQuestions}
+use Rattle.terrain.specs.declared.reader.Reader.{Reader}
 use Rattle.terrain.specs.declared.record.Record.{Record}
 use Rattle.terrain.specs.declared.refusal.Refusal.{Refusal}
 
@@ -34,3 +36,10 @@ recordAt e file at =
 -- The same, if all the bytes of the record are there.
 abbrev pub nextRecord : Format → List ℕ → ℕ → Option (Result Record Refusal)
 nextRecord e file at = cond (enough file at (e .recordLen)) (Some (recordAt e file at)) None
+
+-- A step over `count` bytes, from one reader to the next: the bytes that it gives, and where it stands then.
+pub record Stepped (before after : Reader) (count : ℕ) (given : Option (List ℕ)) : Type 0 where
+  pub bytes : given ≡ bytesAt (now (before .file)) (before .place .at) count
+  pub place : after .place .at ≡ placeAfter (now (before .file)) (before .place .at) count
+  pub file : after .file ≡ before .file
+  pub bound : after .place .at < 2 ^ 64

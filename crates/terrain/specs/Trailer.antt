@@ -13,6 +13,7 @@ use Rattle.terrain.specs.declared.trailer.EditionName.{EditionName}
 use Rattle.terrain.specs.declared.trailer.EditionName.the-variants.{First, Second}
 use Rattle.terrain.specs.declared.trailer.Trailer.{Trailer}
 
+-- The last 12 bytes.
 abbrev pub tailOf : List ℕ → List ℕ
 tailOf file = drop (length file - 12) file
 
@@ -25,6 +26,7 @@ signed bytes =
 abbrev pub nameOf : List ℕ → EditionName
 nameOf tail = cond (eqb (getD tail 10 0) (edition1 .digit)) First Second
 
+-- What an edition says.
 abbrev pub formatOf : EditionName → Format
 formatOf First = edition1
 formatOf Second = edition2
@@ -61,5 +63,6 @@ trailerQuestions n tail =
     ∷ ask (allZero (part tail 6 2)) (TrailerZeros (part tail 6 2) (n - 6))
     ∷ countQuestions (formatOf (nameOf tail)) n tail
 
+-- What the trailer says, in the edition that it names.
 abbrev pub trailerOf : ℕ → List ℕ → Trailer
 trailerOf n tail = trailerAs (nameOf tail) (formatOf (nameOf tail)) n tail

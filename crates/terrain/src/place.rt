@@ -18,6 +18,7 @@ pub struct Look<'p> {
 }
 
 impl<'p> Look<'p> {
+    // A look that begins where the place is.
     pub(crate) fn new(place: &'p mut Place) -> Look<'p>
         ensures start { λ r. ⌜ r .start ≡ now (place .entry) ⌝ }
         ensures lent { λ r. ⌜ name (r .place) ≡ name (place .entry) ⌝ }

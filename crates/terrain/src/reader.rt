@@ -1,9 +1,8 @@
 // A reader over a terrain file as it was handed in: the note, then the records, and a look at the trailer.
-ghost use Prim.Native.Nat.{_+_, _^_, _<_, _≤_};
 ghost use Rattle.std.specs.Options.{mapped};
 ghost use Rattle.terrain.specs.Ask.{firstNo, verdict};
 ghost use Rattle.terrain.specs.Format.{format};
-ghost use Rattle.terrain.specs.Steps.{bytesAt, nextRecord, placeAfter};
+ghost use Rattle.terrain.specs.Steps.{Stepped, nextRecord, placeAfter};
 ghost use Rattle.terrain.specs.Trailer.{tailOf, trailerOf, trailerQuestions};
 ghost use denote.Ref.{now as held};
 ghost use lib.ListN.{length};
@@ -60,10 +59,7 @@ impl<'a> Reader<'a> {
 
     // The next `count` bytes, if so many are left.
     fn step(&mut self, count: usize) -> Option<&'a [u8]>
-        ensures bytes { λ r. ⌜ mapped held r ≡ bytesAt (now (now (self .entry) .file)) (now (self .entry) .place .at) count ⌝ }
-        ensures place { λ _. ⌜ now (self .exit) .place .at ≡ placeAfter (now (now (self .entry) .file)) (now (self .entry) .place .at) count ⌝ }
-        ensures file { λ _. ⌜ now (self .exit) .file ≡ now (self .entry) .file ⌝ }
-        ensures bound { λ _. ⌜ now (self .exit) .place .at < 2 ^ 64 ⌝ }
+        ensures { λ r. ⌜ Stepped (now (self .entry)) (now (self .exit)) count (mapped held r) ⌝ }
     {
         let at = self.place.at;
         if at > self.file.len() || count > self.file.len() - at {
@@ -75,9 +71,7 @@ impl<'a> Reader<'a> {
 
     /// The note, as that part of the file: the next `count` bytes, if so many are left.
     pub fn note(&mut self, count: usize) -> Option<&'a [u8]>
-        ensures bytes { λ r. ⌜ mapped held r ≡ bytesAt (now (now (self .entry) .file)) (now (self .entry) .place .at) count ⌝ }
-        ensures place { λ _. ⌜ now (self .exit) .place .at ≡ placeAfter (now (now (self .entry) .file)) (now (self .entry) .place .at) count ⌝ }
-        ensures file { λ _. ⌜ now (self .exit) .file ≡ now (self .entry) .file ⌝ }
+        ensures { λ r. ⌜ Stepped (now (self .entry)) (now (self .exit)) count (mapped held r) ⌝ }
     {
         self.step(count)
     }

@@ -14,10 +14,13 @@ use byte_order::Edition2;
 use byte_order::NewClient;
 use byte_order::OldClient;
 
+/// How many bytes a trailer has.
 pub const TRAILER_LEN: usize = 12;
 
+/// How many records a site has at most.
 pub const MOST_RECORDS: u16 = 1023;
 
+/// How many bytes a note has at most.
 pub const NOTE_LIMIT: usize = 1024;
 
 /// The edition that a file names by its digit.

@@ -41,6 +41,7 @@ impl Table {
         self.count += 1;
     }
 
+    // How many places are used.
     pub(crate) fn count(&self) -> usize
         ensures { λ r. ⌜ r ≡ now (self .entry) .count ⌝ }
     {
