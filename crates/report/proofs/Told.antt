@@ -6,17 +6,17 @@ use lib.ListN.{length}
 use Rattle.std.specs.declared.option.Option.{Option}
 use Rattle.std.specs.declared.option.Option.the-variants.{Some, None}
 use Rattle.std.specs.declared.result.Result.the-variants.{Err}
-use Rattle.terrain.specs.Ask.{firstNo, verdict}
+use Rattle.questions.specs.Ask.{firstNo, verdict}
 use Rattle.terrain.specs.Trailer.{nameOf, noteLength, tailOf, trailerOf, trailerQuestions}
 use Rattle.terrain.specs.declared.refusal.Refusal.{Refusal}
 use Rattle.terrain.specs.declared.trailer.Trailer.{Trailer}
-use Rattle.terrain.proofs.Asked.{some-stopped}
+use Rattle.questions.proofs.Asked.{some-stopped}
 use Rattle.site.specs.Questions.{questions, questionsFrom}
 use Rattle.site.specs.Records.{records}
 use Rattle.site.specs.Spell.{countIn, formatIn, treeIn}
 use Rattle.site.specs.declared.node.Node.{Node}
 use Rattle.water.specs.Tree.{Tree, height, volume}
-use Rattle.site.proofs.Taken.{verdict-err}
+use Rattle.questions.proofs.Asked.{verdict-err}
 use Rattle.report.specs.FileText.{acceptedText, fileText, textFor}
 use Rattle.report.specs.RefusalLines.{refusalText}
 use Rattle.report.specs.SiteLines.{siteText}

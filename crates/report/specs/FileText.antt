@@ -4,7 +4,7 @@ use Prim.Native.Nat.{ℕ}
 use lib.ListN.{length}
 use Rattle.std.specs.declared.option.Option.{Option}
 use Rattle.std.specs.declared.option.Option.the-variants.{Some, None}
-use Rattle.terrain.specs.Ask.{firstNo}
+use Rattle.questions.specs.Ask.{firstNo}
 use Rattle.terrain.specs.Trailer.{nameOf, noteLength, tailOf}
 use Rattle.terrain.specs.declared.refusal.Refusal.{Refusal}
 use Rattle.water.specs.Tree.{height, volume}

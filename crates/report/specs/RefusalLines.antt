@@ -4,17 +4,10 @@ use Prim.Native.Nat.{ℕ}
 use lib.Chars.{codes}
 use Rattle.std.specs.Written.{decimal}
 use Rattle.report.specs.Lines.{line, numbers}
-use Rattle.terrain.specs.Case.{Case, caseOf}
-use Rattle.terrain.specs.declared.refusal.Layer.{Layer}
-use Rattle.terrain.specs.declared.refusal.Layer.the-variants.{Trailer, Record, Tree}
+use Rattle.questions.specs.Case.{Case, layerName}
+use Rattle.terrain.specs.Case.{caseOf}
 use Rattle.terrain.specs.declared.refusal.Refusal.{Refusal}
 use Rattle.terrain.specs.declared.refusal.Refusal.the-variants.{TooShort, Signature, TrailerZeros, Count, Distance, NoteLength, Kind, RecordZeros, Volume, Waiting, Landings, OpenVolume, Subtrees, Outlets}
-
--- A layer in small letters.
-abbrev pub layerName : Layer → List ℕ
-layerName Trailer = codes "trailer"
-layerName Record = codes "record"
-layerName Tree = codes "tree"
 
 -- The question that was answered no, in words.
 abbrev pub wordsOf : Refusal → List ℕ

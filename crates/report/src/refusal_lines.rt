@@ -1,6 +1,6 @@
 // The text of a refusal: its number, layer and place, the question in words, and what was found.
 ghost use Rattle.report.specs.Lines.{numbers};
-ghost use Rattle.report.specs.RefusalLines.{layerName, placeLine, questionLine, refusalText, wordsOf};
+ghost use Rattle.report.specs.RefusalLines.{placeLine, questionLine, refusalText, wordsOf};
 ghost use Rattle.std.specs.Of.String.{string-bytes};
 ghost use Rattle.std.specs.Vec.{made};
 ghost use Rattle.terrain.specs.Case.{caseOf};
@@ -10,19 +10,7 @@ use crate::numbers::spaced_number;
 use crate::numbers::spaced_pair;
 use std::alloc::AllocError;
 use std::alloc::Global;
-use terrain::Layer;
 use terrain::Refusal;
-
-// The layer in small letters.
-fn layer_name(layer: Layer) -> &'static str
-    ensures { λ r. ⌜ now r ≡ layerName layer ⌝ }
-{
-    match layer {
-        Layer::Trailer => "trailer",
-        Layer::Record => "record",
-        Layer::Tree => "tree",
-    }
-}
 
 // The question in words.
 fn question_words(refusal: &Refusal) -> &'static str
@@ -80,7 +68,7 @@ fn place_line(heap: Global, refusal: &Refusal) -> Result<String, AllocError>
     ensures { λ r. ⌜ made r (λ s. string-bytes s ≡ placeLine (caseOf (now (refusal .entry)))) ⌝ }
 {
     let number = refusal.number();
-    let layer = layer_name(refusal.layer());
+    let layer = refusal.layer().name();
     let place = refusal.place();
     format!(heap, "no {number} {layer} {place}\n")
 }

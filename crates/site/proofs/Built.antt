@@ -10,8 +10,8 @@ use Rattle.std.proofs.shelf.Lists.{append-assoc, length-append, length-map, set
 use Rattle.std.proofs.shelf.Tests.{and-parts, eqb-true}
 use Rattle.std.proofs.shelf.Ways.{tells}
 use Rattle.std.specs.declared.option.Option.the-variants.{None}
-use Rattle.terrain.proofs.Asked.{all-yes}
-use Rattle.terrain.specs.Ask.{Question, ask, firstNo}
+use Rattle.questions.proofs.Asked.{all-yes}
+use Rattle.questions.specs.Ask.{Question, ask, firstNo}
 use Rattle.terrain.specs.declared.record.Kind.{Kind}
 use Rattle.terrain.specs.declared.record.Kind.the-variants.{Basin, Merge, Outlet}
 use Rattle.terrain.specs.declared.record.Record.{Record}

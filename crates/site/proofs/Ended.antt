@@ -15,8 +15,8 @@ use Rattle.std.specs.declared.result.Result.{Result}
 use Rattle.std.specs.declared.result.Result.the-variants.{Ok, Err}
 use Rattle.std.proofs.shelf.Lists.{length-map}
 use Rattle.std.proofs.shelf.Tests.{cond-true, eqb-true, le-leb}
-use Rattle.terrain.proofs.Asked.{all-yes}
-use Rattle.terrain.specs.Ask.{AllYes, ask, firstNo, verdict}
+use Rattle.questions.proofs.Asked.{all-yes}
+use Rattle.questions.specs.Ask.{AllYes, ask, firstNo, verdict}
 use Rattle.terrain.specs.Format.{Format}
 use Rattle.stack.specs.Stack.{capacity, stacked}
 use Rattle.terrain.specs.Steps.{placeAfter}

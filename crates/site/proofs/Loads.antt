@@ -13,14 +13,14 @@ use Rattle.std.specs.declared.option.Option.the-variants.{Some, None}
 use Rattle.std.specs.declared.result.Result.{Result}
 use Rattle.std.specs.declared.result.Result.the-variants.{Ok, Err}
 use Rattle.std.proofs.shelf.Tests.{and-parts, eqb-true, leb-true}
-use Rattle.terrain.specs.Ask.{AllYes, FirstNo, firstNo, refusalIn, verdict}
+use Rattle.questions.specs.Ask.{AllYes, FirstNo, firstNo, refusalIn, verdict}
 use Rattle.terrain.specs.Format.{Format}
 use Rattle.terrain.specs.Trailer.{countOf, distanceOf, formatOf, nameOf, noteLength, tailOf, trailerOf, trailerQuestions}
 use Rattle.terrain.specs.declared.reader.Reader.{Reader}
 use Rattle.terrain.specs.declared.refusal.Refusal.{Refusal}
 use Rattle.terrain.specs.declared.trailer.EditionName.{EditionName}
 use Rattle.terrain.specs.declared.trailer.Trailer.{Trailer}
-use Rattle.terrain.proofs.Asked.{all-passed, all-yes, first-no, some-stopped}
+use Rattle.questions.proofs.Asked.{all-passed, all-yes, first-no, some-stopped}
 use Rattle.water.specs.Formed.{Formed}
 use Rattle.water.specs.Tree.{dried}
 use Rattle.site.specs.Fill.{Fits, Spelled}
@@ -32,7 +32,7 @@ use Rattle.site.specs.Spell.{countIn, formatIn, startOf, treeIn, treeOf}
 use Rattle.site.specs.declared.table.Table.{Table}
 use Rattle.site.proofs.Ended.{no-ok, same-file}
 use Rattle.site.proofs.Listed.{one-postorder}
-use Rattle.site.proofs.Taken.{verdict-err, verdict-ok}
+use Rattle.questions.proofs.Asked.{verdict-err, verdict-ok}
 
 -- A trailer whose questions are all answered yes names records that lie in the file.
 pub trailer-fits : (name : EditionName) (file : List ℕ) → length file < 2 ^ 64 → nameOf (tailOf file) ≡ name →

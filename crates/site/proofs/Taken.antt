@@ -15,7 +15,7 @@ use Rattle.std.specs.declared.option.Option.the-variants.{Some, None}
 use Rattle.std.specs.declared.result.Result.{Result}
 use Rattle.std.specs.declared.result.Result.the-variants.{Ok, Err}
 use Rattle.std.proofs.shelf.Tests.{cond-true, eqb-true, le-leb, ltb-true}
-use Rattle.terrain.specs.Ask.{AllYes, Question, firstNo, verdict}
+use Rattle.questions.specs.Ask.{AllYes, Question, firstNo, verdict}
 use Rattle.terrain.specs.Format.{Format, part}
 use Rattle.terrain.specs.Record.{recordOf, recordQuestions, volumeFits}
 use Rattle.stack.specs.Stack.{capacity, stacked}
@@ -26,7 +26,7 @@ use Rattle.terrain.specs.declared.record.Kind.the-variants.{Basin, Merge, Outle
 use Rattle.terrain.specs.declared.record.Record.{Record}
 use Rattle.terrain.specs.declared.refusal.Refusal.{Refusal}
 use Rattle.stack.specs.declared.stack.Stack.{Stack}
-use Rattle.terrain.proofs.Asked.{all-passed, all-yes, some-stopped}
+use Rattle.questions.proofs.Asked.{all-passed, all-yes, some-stopped, verdict-ok, verdict-err}
 use Rattle.water.specs.Tree.{Tree}
 use Rattle.site.specs.Building.{Building, listed}
 use Rattle.site.specs.Fill.{Reached, Fits, Filled}
@@ -38,15 +38,6 @@ use Rattle.site.specs.declared.node.Summary.{Summary}
 use Rattle.site.specs.declared.table.Table.{Table}
 use Rattle.site.proofs.Built.{built-more, same-questions}
 use Rattle.site.proofs.Listed.{listed-more}
-
--- What a verdict tells of the questions.
-pub verdict-ok : {R A : Type 0} (o : Option R) (a b : A) → Ok a ≡ verdict o b → (o ≡ None) × (a ≡ b)
-verdict-ok None a b e = (refl, cc)
-verdict-ok (Some r) a b e = let z : _≡_ {A = ℕ} 0 1 = cc in absurd (omega arith)
-
-pub verdict-err : {R A : Type 0} (o : Option R) (x : R) (b : A) → Err x ≡ verdict o b → o ≡ Some x
-verdict-err None x b e = let z : _≡_ {A = ℕ} 0 1 = cc in absurd (omega arith)
-verdict-err (Some r) x b e = cc
 
 -- Where the next record starts.
 pub next-start : (e : Format) (file : List ℕ) (i : ℕ) → startOf e file (i + 1) ≡ startOf e file i + e .recordLen

@@ -9,7 +9,7 @@ use Rattle.std.specs.declared.option.Option.the-variants.{Some}
 use Rattle.std.specs.declared.result.Result.{Result}
 use Rattle.std.specs.declared.result.Result.the-variants.{Ok, Err}
 use Rattle.std.specs.Results.{isOk}
-use Rattle.terrain.specs.Ask.{firstNo, verdict}
+use Rattle.questions.specs.Ask.{firstNo, verdict}
 use Rattle.terrain.specs.Format.{Format}
 use Rattle.stack.specs.Stack.{capacity, stacked}
 use Rattle.terrain.specs.declared.reader.Reader.{Reader}

@@ -7,7 +7,7 @@ use Rattle.std.specs.Results.{isOk}
 use Rattle.std.specs.declared.result.Result.{Result}
 use Rattle.std.specs.declared.result.Result.the-variants.{Ok, Err}
 use Rattle.std.specs.declared.option.Option.the-variants.{Some, None}
-use Rattle.terrain.specs.Ask.{FirstNo, firstNo, verdict}
+use Rattle.questions.specs.Ask.{FirstNo, firstNo, verdict}
 use Rattle.terrain.specs.declared.refusal.Refusal.{Refusal}
 use Rattle.water.specs.Tree.{Tree, dried}
 use Rattle.water.specs.Formed.{Formed}

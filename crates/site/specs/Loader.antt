@@ -9,7 +9,7 @@ use Rattle.std.specs.Results.{isOk}
 use Rattle.std.specs.declared.result.Result.{Result}
 use Rattle.stack.specs.Stack.{capacity, stacked}
 use Rattle.stack.specs.declared.stack.Stack.{Stack}
-use Rattle.terrain.specs.Ask.{Question, ask, firstNo, verdict}
+use Rattle.questions.specs.Ask.{Question, ask, firstNo, verdict}
 use Rattle.terrain.specs.declared.record.Kind.{Kind}
 use Rattle.terrain.specs.declared.record.Kind.the-variants.{Basin, Merge, Outlet}
 use Rattle.terrain.specs.declared.record.Record.{Record}

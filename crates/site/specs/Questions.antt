@@ -4,7 +4,7 @@ use mathlib.Core.List.{List, [], _∷_, _++_}
 use Prim.Native.Nat.{ℕ, zero, suc, _+_, _-_}
 use lib.Dec.{eqb, leb}
 use lib.ListN.{length}
-use Rattle.terrain.specs.Ask.{Question, ask}
+use Rattle.questions.specs.Ask.{Question, ask}
 use Rattle.terrain.specs.Format.{Format, part}
 use Rattle.terrain.specs.Record.{recordQuestions}
 use Rattle.terrain.specs.Trailer.{tailOf, trailerQuestions}

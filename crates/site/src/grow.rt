@@ -1,7 +1,7 @@
 // One record more on the tree that is being loaded.
 ghost use Prim.Native.Nat.{_+_, _^_, _<_};
 ghost use Rattle.site.specs.Loader.{Grew, endSeen};
-ghost use Rattle.terrain.specs.Ask.{ask, firstNo, verdict};
+ghost use Rattle.questions.specs.Ask.{ask, firstNo, verdict};
 ghost use Rattle.terrain.specs.declared.refusal.Refusal.the-variants.{Landings};
 ghost use Rattle.stack.specs.Stack.{capacity, stacked};
 ghost use Rattle.terrain.specs.declared.record.Kind.the-variants.{Merge};

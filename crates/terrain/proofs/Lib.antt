@@ -1,4 +1,3 @@
-pub mod Asked
 pub mod Fields
 pub mod Signed
 pub mod Stepping

@@ -8,7 +8,7 @@ use Rattle.std.specs.declared.option.Option.{Option}
 use Rattle.std.specs.declared.option.Option.the-variants.{Some, None}
 use Rattle.std.specs.declared.result.Result.{Result}
 use Rattle.std.proofs.shelf.Tests.{le-leb}
-use Rattle.terrain.specs.Ask.{firstNo, verdict}
+use Rattle.questions.specs.Ask.{firstNo, verdict}
 use Rattle.terrain.specs.Format.{part}
 use Rattle.terrain.specs.Trailer.{signed, nameOf, formatOf, countQuestions, trailerAs, trailerQuestions, trailerOf}
 use Rattle.terrain.specs.Zeros.{allZero}

@@ -10,7 +10,7 @@ use Rattle.std.specs.declared.option.Option.the-variants.{Some, None}
 use Rattle.std.specs.declared.result.Result.{Result}
 use Rattle.std.proofs.shelf.Lists.{length-take, length-drop, take-all}
 use Rattle.std.proofs.shelf.Tests.{leb-true, le-leb, cond-true}
-use Rattle.terrain.specs.Ask.{firstNo, verdict}
+use Rattle.questions.specs.Ask.{firstNo, verdict}
 use Rattle.terrain.specs.Format.{Format, part}
 use Rattle.terrain.specs.Record.{recordOf, recordQuestions}
 use Rattle.terrain.specs.Steps.{enough, bytesAt, nextRecord, recordAt, placeAfter}

@@ -1,21 +1,9 @@
 -- What each refusal of a terrain file says: its number, its layer, its place and what was found.
-use mathlib.Core.List.{List, [], _∷_}
-use Prim.Native.Nat.{ℕ}
-use Rattle.terrain.specs.declared.refusal.Layer.{Layer}
-use Rattle.terrain.specs.declared.refusal.Layer.the-variants.{Trailer, Record, Tree}
+use mathlib.Core.List.{[], _∷_}
+use Rattle.questions.specs.Case.{Case, case}
+use Rattle.questions.specs.declared.layer.Layer.the-variants.{Trailer, Record, Tree}
 use Rattle.terrain.specs.declared.refusal.Refusal.{Refusal}
 use Rattle.terrain.specs.declared.refusal.Refusal.the-variants.{TooShort, Signature, TrailerZeros, Count, Distance, NoteLength, Kind, RecordZeros, Volume, Waiting, Landings, OpenVolume, Subtrees, Outlets}
-
--- What a refusal tells.
-pub record Case : Type 0 where
-  pub number : ℕ
-  pub layer : Layer
-  pub place : ℕ
-  pub found : List ℕ
-
--- A case from its parts.
-abbrev pub case : ℕ → Layer → ℕ → List ℕ → Case
-case n l p f = record { number = n; layer = l; place = p; found = f }
 
 -- The one definition of every case.
 abbrev pub caseOf : Refusal → Case

@@ -1,4 +1,3 @@
-pub mod Ask
 pub mod Case
 pub mod Format
 pub mod Record

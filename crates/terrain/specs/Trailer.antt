@@ -4,7 +4,7 @@ use mathlib.Core.List.{List, [], _∷_}
 use Prim.Native.Nat.{ℕ, _-_, _*_}
 use lib.Dec.{eqb, leb}
 use lib.ListN.{length, getD, drop}
-use Rattle.terrain.specs.Ask.{Question, ask}
+use Rattle.questions.specs.Ask.{Question, ask}
 use Rattle.terrain.specs.Format.{Format, edition1, edition2, part}
 use Rattle.terrain.specs.Zeros.{allZero}
 use Rattle.terrain.specs.declared.refusal.Refusal.{Refusal}

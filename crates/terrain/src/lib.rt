@@ -14,7 +14,6 @@ mod reader;
 pub use reader::Reader;
 pub use record::Kind;
 pub use record::Record;
-pub use refusal::Layer;
 pub use refusal::Refusal;
 pub use trailer::EditionName;
 pub use trailer::MOST_RECORDS;

@@ -1,6 +1,6 @@
 // A reader over a terrain file as it was handed in: the note, then the records, and a look at the trailer.
 ghost use Rattle.std.specs.Options.{mapped};
-ghost use Rattle.terrain.specs.Ask.{firstNo, verdict};
+ghost use Rattle.questions.specs.Ask.{firstNo, verdict};
 ghost use Rattle.terrain.specs.Format.{format};
 ghost use Rattle.terrain.specs.Steps.{Stepped, nextRecord, placeAfter};
 ghost use Rattle.terrain.specs.Trailer.{tailOf, trailerOf, trailerQuestions};

@@ -1,6 +1,6 @@
 // A record of a terrain file, read from its bytes.
 ghost use Prim.Native.Nat.{_+_, _<_, _^_};
-ghost use Rattle.terrain.specs.Ask.{firstNo, verdict};
+ghost use Rattle.questions.specs.Ask.{firstNo, verdict};
 ghost use Rattle.terrain.specs.Format.{format};
 ghost use Rattle.terrain.specs.Record.{kindOf, recordOf, recordQuestions, volumeFits};
 ghost use lib.Dec.{leb};

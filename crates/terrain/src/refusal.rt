@@ -1,14 +1,7 @@
 // Why a terrain file is refused: one case for each question, with what was found and where.
 ghost use Rattle.terrain.specs.Case.{caseOf};
 ghost use mathlib.Core.Path.{_≡_};
-
-/// The part of the check that found a refusal.
-#[derive(Clone, Copy)]
-pub enum Layer {
-    Trailer,
-    Record,
-    Tree,
-}
+use questions::Layer;
 
 /// The question that was answered no. Places count from the file's first byte.
 #[derive(Clone, Copy)]

@@ -1,6 +1,6 @@
 // The trailer of a terrain file, read from its last 12 bytes.
 ghost use Prim.Native.Nat.{ℕ, _≤_};
-ghost use Rattle.terrain.specs.Ask.{firstNo, verdict};
+ghost use Rattle.questions.specs.Ask.{firstNo, verdict};
 ghost use Rattle.std.specs.declared.option.Option.the-variants.{Some, None};
 ghost use Rattle.terrain.specs.Format.{format, part};
 ghost use Rattle.terrain.specs.Trailer.{countQuestions, nameOf, signed, trailerAs, trailerOf, trailerQuestions};

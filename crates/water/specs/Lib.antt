@@ -9,3 +9,6 @@ pub mod Rains
 pub mod Litre
 pub mod Depression
 pub mod Level
+pub mod Case
+pub mod State
+pub mod Calls

@@ -1,4 +1,18 @@
-// The theory of the merge tree and its water: each function's contract is a law.
+// The theory of the merge tree and its water: each law is a function's contract. Beside it, what calls on a site's
+// water are given, answer and refuse.
+
+// What calls are given and answer in.
+mod units;
+
+pub use units::Leaf;
+pub use units::Litres;
+pub use units::Totals;
+
+// Why a call is refused.
+mod refusal;
+
+pub use refusal::RAIN_LIMIT;
+pub use refusal::Refusal;
 
 // The records of a tree by their numbers.
 mod records;

@@ -2,7 +2,7 @@
 ghost use Rattle.site.specs.Loaded.{Loaded, SiteRead, TableRead};
 ghost use Rattle.site.specs.Questions.{questions};
 ghost use Rattle.std.specs.Results.{isOk};
-ghost use Rattle.terrain.specs.Ask.{FirstNo, firstNo, refusalIn, verdict};
+ghost use Rattle.questions.specs.Ask.{FirstNo, firstNo, refusalIn, verdict};
 ghost use mathlib.Core.Bool.{false, true};
 ghost use mathlib.Core.Path.{_≡_};
 use super::Site;

@@ -1,10 +1,10 @@
 use mathlib.Core.Path.{refl, _∙_}
 use Rattle.std.specs.Of.String.{string-bytes}
-use Rattle.terrain.specs.Ask.{firstNo}
+use Rattle.questions.specs.Ask.{firstNo}
 use Rattle.site.specs.Questions.{questions}
 use Rattle.site.specs.Spell.{treeIn}
 use Rattle.site.proofs.Loads.{trailer-read}
-use Rattle.site.proofs.Taken.{verdict-err, verdict-ok}
+use Rattle.questions.proofs.Asked.{verdict-err, verdict-ok}
 use Rattle.report.proofs.Said.{made-as}
 use Rattle.report.proofs.Told.{site-told, told-accepted, told-refused, trailer-refuses}
 use Rattle.report.proofs.describe.file_text.Needs as need

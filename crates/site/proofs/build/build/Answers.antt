@@ -6,14 +6,14 @@ use lib.ListN.{length}
 use Rattle.std.proofs.shelf.Results.{err-from-errBy}
 use Rattle.std.specs.declared.option.Option.the-variants.{Some}
 use Rattle.std.specs.declared.result.Result.the-variants.{Err}
-use Rattle.terrain.specs.Ask.{firstNo}
+use Rattle.questions.specs.Ask.{firstNo}
 use Rattle.terrain.specs.Format.{Format, format}
 use Rattle.stack.specs.Stack.{stacked}
 use Rattle.terrain.specs.Steps.{placeAfter}
 use Rattle.site.specs.Fill.{Fits}
 use Rattle.site.specs.Loader.{endSeen}
 use Rattle.site.proofs.Ended.{starts, ended-err, ended-ok, same-file}
-use Rattle.site.proofs.Taken.{verdict-ok, verdict-err}
+use Rattle.questions.proofs.Asked.{verdict-ok, verdict-err}
 use Rattle.site.proofs.build.build.Needs as need
 
 pub fill-requires : need.fill-requires

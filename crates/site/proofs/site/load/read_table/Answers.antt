@@ -5,11 +5,11 @@ use native.Mathlib.Omega.{arith}
 use lib.ListN.{length}
 use Rattle.std.proofs.shelf.Results.{err-from-errBy}
 use Rattle.std.specs.declared.result.Result.the-variants.{Err}
-use Rattle.terrain.specs.Ask.{firstNo}
+use Rattle.questions.specs.Ask.{firstNo}
 use Rattle.terrain.specs.Trailer.{tailOf, trailerOf, trailerQuestions}
 use Rattle.terrain.specs.declared.trailer.EditionName.the-variants.{First, Second}
 use Rattle.site.proofs.Loads.{handed, trailer-refused}
-use Rattle.site.proofs.Taken.{verdict-err}
+use Rattle.questions.proofs.Asked.{verdict-err}
 use Rattle.site.proofs.site.load.read_table.Needs as need
 
 pub build-requires : need.build-requires

@@ -3,7 +3,7 @@ use mathlib.Core.List.{List}
 use Prim.Native.Nat.{ℕ}
 use native.Mathlib.Omega.{arith}
 use lib.ListN.{length}
-use Rattle.terrain.specs.Ask.{firstNo, verdict}
+use Rattle.questions.specs.Ask.{firstNo, verdict}
 use Rattle.terrain.specs.Trailer.{tailOf, trailerOf, trailerQuestions}
 use Rattle.terrain.proofs.Stepping.{length-part, put-back, tail-is}
 use Rattle.terrain.proofs.reader.Reader.trailer.Needs as need

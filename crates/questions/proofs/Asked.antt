@@ -6,8 +6,9 @@ use Prim.Native.Nat.{ℕ}
 use native.Mathlib.Omega.{arith}
 use Rattle.std.specs.declared.option.Option.{Option}
 use Rattle.std.specs.declared.option.Option.the-variants.{Some, None}
+use Rattle.std.specs.declared.result.Result.the-variants.{Ok, Err}
 use Rattle.std.proofs.shelf.Tests.{cond-true, cond-false}
-use Rattle.terrain.specs.Ask.{Question, AllYes, FirstNo, ask, firstNo}
+use Rattle.questions.specs.Ask.{Question, AllYes, FirstNo, ask, firstNo, verdict}
 
 -- A yes leads on to the next question.
 pub passed : {R : Type 0} (b : Bool) (r : R) (qs : List (Question R)) → b ≡ true → firstNo (ask b r ∷ qs) ≡ firstNo qs
@@ -55,3 +56,12 @@ first-no {R} (q ∷ qs) = go (q .yes) refl (firstNo qs) (first-no qs)
     go true e None f = (e, f)
     go true e (Some r) f = (q ∷ f .0, f .1, ap (λ (l : List (Question R)). q ∷ l) (f .2), (e, f .3))
     go false e o f = ([], qs, ap (λ (b : Bool). ask b (q .refusal) ∷ qs) e, tt)
+
+-- What a verdict tells of the questions.
+pub verdict-ok : {R A : Type 0} (o : Option R) (a b : A) → Ok a ≡ verdict o b → (o ≡ None) × (a ≡ b)
+verdict-ok None a b e = (refl, cc)
+verdict-ok (Some r) a b e = let z : _≡_ {A = ℕ} 0 1 = cc in absurd (omega arith)
+
+pub verdict-err : {R A : Type 0} (o : Option R) (x : R) (b : A) → Err x ≡ verdict o b → o ≡ Some x
+verdict-err None x b e = let z : _≡_ {A = ℕ} 0 1 = cc in absurd (omega arith)
+verdict-err (Some r) x b e = cc
