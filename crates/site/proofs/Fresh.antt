@@ -3,7 +3,6 @@ use mathlib.Core.Path.{_≡_, refl}
 use native.Mathlib.Omega.{arith}
 use Rattle.water.specs.Tree.{outlet}
 use Rattle.water.specs.Formed.{Formed}
-use Rattle.water.specs.Sound.{Sound}
 
-pub outlet-sound : Sound (outlet 0 0)
-outlet-sound = record { formed = record { numbered = refl; shaped = tt; outlet = refl; few = omega arith }; within = tt }
+pub outlet-formed : Formed (outlet 0 0)
+outlet-formed = record { numbered = refl; shaped = tt; outlet = refl; few = omega arith }

@@ -5,6 +5,8 @@ pub mod Holding
 pub mod Listed
 pub mod Loads
 pub mod Measured
+pub mod Places
+pub mod Pours
 pub mod Sounds
 pub mod Taken
 pub mod Trees

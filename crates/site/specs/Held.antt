@@ -1,7 +1,8 @@
--- What the table of every site holds.
+-- What the table and the sums of every site hold.
 use mathlib.Core.Path.{_≡_}
+use Prim.Native.Nat.{ℕ}
 use Rattle.water.specs.Tree.{Tree, size}
-use Rattle.water.specs.Sound.{Sound}
+use Rattle.water.specs.State.{State, Standing}
 use Rattle.site.specs.Records.{tableOf}
 use Rattle.site.specs.declared.table.Table.{Table}
 
@@ -9,8 +10,13 @@ use Rattle.site.specs.declared.table.Table.{Table}
 abbrev pub tabled : Tree → Table
 tabled t = record { nodes = tableOf t; count = size t }
 
--- The used places hold one tree in postorder, formed as a site's tree is, with water as it may stand.
-pub record Held (table : Table) : Type 0 where
-  pub tree : Tree
-  pub sound : Sound tree
-  pub holds : table ≡ tabled tree
+-- They hold the state s: the used places hold its tree in postorder, and the sums are its sums.
+pub record Holds (table : Table) (a p : ℕ) (s : State) : Type 0 where
+  pub tree : table ≡ tabled (s .tree)
+  pub accepted : a ≡ s .accepted
+  pub pumped : p ≡ s .pumped
+  pub stands : Standing s
+
+-- They hold some state that a site can be in.
+abbrev pub Held : Table → (accepted pumped : ℕ) → Type 0
+Held table accepted pumped = (s : State) × Holds table accepted pumped s

@@ -1,5 +1,6 @@
 pub mod Building
 pub mod Fill
+pub mod Filling
 pub mod Held
 pub mod Loaded
 pub mod Loader
@@ -7,4 +8,6 @@ pub mod Measures
 pub mod Postorder
 pub mod Questions
 pub mod Records
+pub mod Shows
 pub mod Spell
+pub mod Subtree

@@ -1,4 +1,5 @@
 // A site: the table of its records with their water, and the sums of its calls.
+ghost use Prim.Native.Nat.{_≤_};
 ghost use Rattle.site.specs.Held.{Held};
 use crate::table::Table;
 
@@ -8,7 +9,8 @@ pub struct Site {
     table: Table,
     accepted: u64,
     pumped: u64,
-    ghost sound: { ∥ Held table ∥₁ },
+    ghost holds: { ∥ Held table accepted pumped ∥₁ },
+    ghost limit: { accepted ≤ 1152921504606846976 },
 }
 
 // The site that there is before any file is loaded.

@@ -12,5 +12,8 @@ pub struct Table {
     count: usize,
 }
 
-// What can be done with a table.
+// Filling a table while loading, and looking into it.
 mod ops;
+
+// Pouring water into it.
+mod pour;

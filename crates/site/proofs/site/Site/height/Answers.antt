@@ -7,9 +7,9 @@ use Rattle.site.proofs.Measured.{heights-of}
 use Rattle.site.proofs.site.Site.height.Needs as need
 
 pub tree-height-requires : need.tree-height-requires
-tree-height-requires c κs = used-few (c .args .self .now .table) (c .records .result .now) (c .args .self .now .sound) (c .records .ensures)
+tree-height-requires c κs = used-few (c .args .self .now) (c .records .result .now) (c .records .ensures)
 
 pub returns : need.returns
 returns c = λ t e.
     c .tree-height .ensures ∙ ap (λ (l : List Node). newestHeight (heights l [])) (c .records .ensures t e)
-    ∙ ap newestHeight (heights-of t [] (tree-few (c .args .self .now .table) t (c .args .self .now .sound) e))
+    ∙ ap newestHeight (heights-of t [] (tree-few (c .args .self .now) t e))

@@ -3,7 +3,7 @@ use Rattle.site.proofs.Holding.{held-few, used-is}
 use Rattle.site.proofs.site.Site.records.Needs as need
 
 pub used-requires : need.used-requires
-used-requires c κs = held-few (c .args .self .now .table) (c .args .self .now .sound)
+used-requires c κs = held-few (c .args .self .now)
 
 pub returns : need.returns
 returns c = λ t e. c .used .ensures ∙ used-is (c .args .self .now .table) t e

@@ -6,8 +6,8 @@ use Rattle.site.proofs.site.Site.volume.Needs as need
 
 pub total-volume-requires : need.total-volume-requires
 total-volume-requires c κs = (
-  used-few (c .args .self .now .table) (c .records .result .now) (c .args .self .now .sound) (c .records .ensures),
-  used-small (c .args .self .now .table) (c .records .result .now) (c .args .self .now .sound) (c .records .ensures),
+  used-few (c .args .self .now) (c .records .result .now) (c .records .ensures),
+  used-small (c .args .self .now) (c .records .result .now) (c .records .ensures),
 )
 
 pub returns : need.returns

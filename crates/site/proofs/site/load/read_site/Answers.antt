@@ -1,21 +1,24 @@
 use mathlib.Core.Path.{_≡_, refl, sym, ap, subst, _∙_}
+use native.Mathlib.Omega.{arith}
 use Rattle.std.proofs.shelf.Results.{err-from-errBy}
 use Rattle.std.specs.declared.option.Option.{Option}
 use Rattle.std.specs.declared.result.Result.the-variants.{Err}
 use Rattle.questions.specs.Ask.{firstNo, verdict}
 use Rattle.terrain.specs.declared.refusal.Refusal.{Refusal}
+use Rattle.water.specs.State.{untouched}
 use Rattle.site.specs.Loaded.{SiteRead, accepts, refuses}
 use Rattle.site.specs.Questions.{questions}
 use Rattle.site.specs.Spell.{treeIn}
 use Rattle.site.proofs.Loads.{answer-in-words, only-tree, table-read, table-refused}
-use Rattle.site.proofs.Sounds.{held-dry}
+use Rattle.site.proofs.Sounds.{dry-holds}
 use Rattle.site.proofs.site.load.read_site.Needs as need
 
 pub ghost-result : need.ghost-result
 ghost-result c =
     let h = c .in-Continue-table .ensures tt in
     let p = table-read (c .args .file .now) (c .in-Continue-table .table) h in
-    (∣ held-dry (c .in-Continue-table .table) (treeIn (c .args .file .now)) (p .1) (h .formed refl) (h .dry refl) ∣₁, tt)
+    let t = treeIn (c .args .file .now) in
+    (∣ (untouched t, dry-holds (c .in-Continue-table .table) t (p .1) (h .formed refl) (h .dry refl)) ∣₁, (omega arith, tt))
 
 pub returns : need.returns
 returns c =
