@@ -8,3 +8,4 @@ pub mod Numbers
 pub mod Walk
 pub mod Depressions
 pub mod Levels
+pub mod Worked

@@ -12,3 +12,4 @@ pub mod Level
 pub mod Case
 pub mod State
 pub mod Calls
+pub mod Examples

@@ -51,3 +51,8 @@ pub use depression::rain_stays_in_a_depression_with_room;
 mod level;
 
 pub use level::the_level_is_that_of_the_topmost_pool;
+
+// The worked examples.
+mod examples;
+
+pub use examples::the_worked_examples_hold;
