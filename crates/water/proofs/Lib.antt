@@ -9,3 +9,5 @@ pub mod Walk
 pub mod Depressions
 pub mod Levels
 pub mod Worked
+pub mod Dry
+pub mod Calling

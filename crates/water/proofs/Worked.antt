@@ -1,34 +1,20 @@
 -- The worked examples, by pouring all at once.
-use mathlib.Core.Path.{_≡_, refl, sym, ap₂, _∙_}
+use mathlib.Core.Path.{_≡_, refl, sym, _∙_}
 use mathlib.Core.Bool.{true}
 use mathlib.Core.List.{List, [], _∷_}
 use Prim.Native.Nat.{ℕ, _+_, _≤_}
 use native.Mathlib.Omega.{arith}
 use Rattle.std.proofs.shelf.Tests.{false≢true}
-use Rattle.water.specs.Tree.{Tree, basin, outlet, merge, hasLeaf, dried}
-use Rattle.water.specs.Sound.{Within, Sound}
+use Rattle.water.specs.Tree.{Tree, hasLeaf, dried}
+use Rattle.water.specs.Sound.{Sound}
 use Rattle.water.specs.Pour.{poured, excess}
 use Rattle.water.specs.Water.{outflow}
 use Rattle.water.specs.Level.{level, hasBasin}
 use Rattle.water.specs.Examples.{Step, rain, levelIs, outflowIs, dryAgain, Shown, waters, seven, worked}
-use Rattle.water.proofs.Shape.{formed-same}
+use Rattle.water.proofs.Dry.{sound-dried, within-dried}
 use Rattle.water.proofs.Keep.{sound-kept}
 use Rattle.water.proofs.Walk.{rain-is, rain-from}
 use Rattle.water.proofs.Levels.{level-is}
-
-dried-twice : (t : Tree) → dried (dried t) ≡ dried t
-dried-twice (basin n o w) = refl
-dried-twice (outlet n w) = refl
-dried-twice (merge n o w c x y l r) = ap₂ (λ (i j : Tree). merge n o 0 c x y i j) (dried-twice l) (dried-twice r)
-
-within-dried : (t : Tree) → Within (dried t)
-within-dried (basin n o w) = omega arith
-within-dried (outlet n w) = tt
-within-dried (merge n o w c x y l r) = (within-dried l, within-dried r, omega arith, λ h. absurd (omega arith))
-
-sound-dried : (t : Tree) → Sound t → Sound (dried t)
-sound-dried t h =
-    record { formed = formed-same t (dried t) (sym (dried-twice t)) (h .formed); within = within-dried t }
 
 -- What is left to compute of each step.
 abbrev Computes : Tree → List Step → Type 0
