@@ -6,9 +6,10 @@ use Prim.Native.Nat.{ℕ}
 use native.Mathlib.Omega.{arith}
 use Rattle.std.specs.declared.option.Option.{Option}
 use Rattle.std.specs.declared.option.Option.the-variants.{Some, None}
+use Rattle.std.specs.declared.result.Result.{Result}
 use Rattle.std.specs.declared.result.Result.the-variants.{Ok, Err}
 use Rattle.std.proofs.shelf.Tests.{cond-true, cond-false}
-use Rattle.questions.specs.Ask.{Question, AllYes, FirstNo, ask, firstNo, verdict}
+use Rattle.questions.specs.Ask.{Question, AllYes, FirstNo, ask, firstNo, refusalIn, verdict}
 
 -- A yes leads on to the next question.
 pub passed : {R : Type 0} (b : Bool) (r : R) (qs : List (Question R)) → b ≡ true → firstNo (ask b r ∷ qs) ≡ firstNo qs
@@ -65,3 +66,11 @@ verdict-ok (Some r) a b e = let z : _≡_ {A = ℕ} 0 1 = cc in absurd (omega ar
 pub verdict-err : {R A : Type 0} (o : Option R) (x : R) (b : A) → Err x ≡ verdict o b → o ≡ Some x
 verdict-err None x b e = let z : _≡_ {A = ℕ} 0 1 = cc in absurd (omega arith)
 verdict-err (Some r) x b e = cc
+
+refusal-in : {R A : Type 0} (o : Option R) (a : A) → refusalIn (verdict o a) ≡ o
+refusal-in None a = refl
+refusal-in (Some r) a = refl
+
+-- The answer is the first question answered no, in words.
+pub answer-in-words : {R A : Type 0} (qs : List (Question R)) (r : Result A R) (a : A) → r ≡ verdict (firstNo qs) a → FirstNo qs (refusalIn r)
+answer-in-words qs r a h = subst (FirstNo qs) (sym (ap refusalIn h ∙ refusal-in (firstNo qs) a)) (first-no qs)

@@ -7,6 +7,7 @@ pub mod Loads
 pub mod Measured
 pub mod Places
 pub mod Pours
+pub mod Raining
 pub mod Sounds
 pub mod Taken
 pub mod Trees

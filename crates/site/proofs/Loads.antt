@@ -13,14 +13,14 @@ use Rattle.std.specs.declared.option.Option.the-variants.{Some, None}
 use Rattle.std.specs.declared.result.Result.{Result}
 use Rattle.std.specs.declared.result.Result.the-variants.{Ok, Err}
 use Rattle.std.proofs.shelf.Tests.{and-parts, eqb-true, leb-true}
-use Rattle.questions.specs.Ask.{AllYes, FirstNo, firstNo, refusalIn, verdict}
+use Rattle.questions.specs.Ask.{AllYes, firstNo, verdict}
 use Rattle.terrain.specs.Format.{Format}
 use Rattle.terrain.specs.Trailer.{countOf, distanceOf, formatOf, nameOf, noteLength, tailOf, trailerOf, trailerQuestions}
 use Rattle.terrain.specs.declared.reader.Reader.{Reader}
 use Rattle.terrain.specs.declared.refusal.Refusal.{Refusal}
 use Rattle.terrain.specs.declared.trailer.EditionName.{EditionName}
 use Rattle.terrain.specs.declared.trailer.Trailer.{Trailer}
-use Rattle.questions.proofs.Asked.{all-passed, all-yes, first-no, some-stopped}
+use Rattle.questions.proofs.Asked.{all-passed, all-yes, some-stopped}
 use Rattle.water.specs.Formed.{Formed}
 use Rattle.water.specs.Tree.{dried}
 use Rattle.site.specs.Fill.{Fits, Spelled}
@@ -127,15 +127,6 @@ table-read file table t = verdict-ok (firstNo (questions file)) table (tabled (t
 
 pub table-refused : (file : List ℕ) (x : Refusal) → TableRead file (Err x) → firstNo (questions file) ≡ Some x
 table-refused file x t = verdict-err (firstNo (questions file)) x (tabled (treeIn file)) (t .answer)
-
-refusal-in : (o : Option Refusal) → refusalIn {A = Unit {0}} (verdict o tt) ≡ o
-refusal-in None = refl
-refusal-in (Some x) = refl
-
--- The answer is the first question answered no, in words.
-pub answer-in-words : (file : List ℕ) (r : Result (Unit {0}) Refusal) → r ≡ verdict (firstNo (questions file)) tt → FirstNo (questions file) (refusalIn r)
-answer-in-words file r h =
-    subst (FirstNo (questions file)) (sym (ap refusalIn h ∙ refusal-in (firstNo (questions file)))) (first-no (questions file))
 
 -- The file's tree is the only one that its records spell.
 pub only-tree : (file : List ℕ) → Formed (treeIn file) → dried (treeIn file) ≡ treeIn file →

@@ -37,8 +37,9 @@ fn merge(
     let Some(left) = waiting.pop() else {
         return Err(Refusal::Waiting { waiting: found, at });
     };
-    let on_left = table.has_leaf(said.left, left.first, right.first as usize);
-    let on_right = table.has_leaf(said.right, right.first, table.count());
+    let cut = right.first as usize;
+    let on_left = table.has_leaf(said.left as usize, left.first as usize, cut);
+    let on_right = table.has_leaf(said.right as usize, cut, table.count());
     if !on_left || !on_right {
         return Err(Refusal::Landings {
             left: said.left,

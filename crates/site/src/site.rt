@@ -21,3 +21,12 @@ mod load;
 
 // Asking what it is made of.
 mod shape;
+
+// Rain.
+mod rain;
+
+// Asking for the level over a leaf.
+mod level;
+
+// Reporting the sums.
+mod totals;

@@ -18,7 +18,7 @@ use Rattle.water.proofs.Shape.{shape-kept}
 use Rattle.water.proofs.Walk.{rain-is, rain-from}
 
 -- Every litre of rain stays on the site, so the sums go on balancing.
-rained-stands : (a : Leaf) (v : Litres) (s : State) → Standing s → s .accepted + v .0 ≤ 2 ^ 60 → Standing (rainedOn a v s)
+pub rained-stands : (a : Leaf) (v : Litres) (s : State) → Standing s → s .accepted + v .0 ≤ 2 ^ 60 → Standing (rainedOn a v s)
 rained-stands a v s h most =
     let none : excess (a .0) (v .0) (s .tree) ≡ 0 = open-excess (a .0) (v .0) (s .tree) (formed-open (s .tree) (h .sound .formed)) in
     record {

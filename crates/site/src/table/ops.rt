@@ -57,17 +57,16 @@ impl Table {
     }
 
     // Is record k, of those from `from` up to before `to`, a leaf?
-    pub(crate) fn has_leaf(&self, k: u16, from: u16, to: usize) -> bool
+    pub(crate) fn has_leaf(&self, k: usize, from: usize, to: usize) -> bool
         ensures { λ r. ⌜ r ≡ leafAmong (now (self .entry) .nodes) k from to ⌝ }
     {
-        let i = k as usize;
-        if k < from || i >= to {
+        if k < from || k >= to {
             return false;
         }
-        if i >= PLACES {
+        if k >= PLACES {
             return false;
         }
-        let node = self.nodes[i];
+        let node = self.nodes[k];
         match node {
             Node::Basin { .. } | Node::Outlet { .. } => true,
             Node::Unused | Node::Merge { .. } => false,

@@ -9,7 +9,8 @@ use Rattle.water.specs.State.{untouched}
 use Rattle.site.specs.Loaded.{SiteRead, accepts, refuses}
 use Rattle.site.specs.Questions.{questions}
 use Rattle.site.specs.Spell.{treeIn}
-use Rattle.site.proofs.Loads.{answer-in-words, only-tree, table-read, table-refused}
+use Rattle.questions.proofs.Asked.{answer-in-words}
+use Rattle.site.proofs.Loads.{only-tree, table-read, table-refused}
 use Rattle.site.proofs.Sounds.{dry-holds}
 use Rattle.site.proofs.site.load.read_site.Needs as need
 
@@ -27,7 +28,7 @@ returns c =
     let p = table-read file (c .in-Continue-table .table) h in
     let a : accepts ≡ verdict (firstNo (questions file)) tt = ap (λ (o : Option Refusal). verdict o tt) (sym (p .0)) in (
       a,
-      answer-in-words file accepts a,
+      answer-in-words (questions file) accepts tt a,
       record {
         table = p .1;
         formed = h .formed refl;
@@ -46,4 +47,4 @@ returns-in-Break-table c =
     let p = err-from-errBy (c .from-residual .result) (c .from-residual .ensures .1) in
     let q = table-refused file x (c .in-Break-table .ensures tt) in
     let a : refuses x ≡ verdict (firstNo (questions file)) tt = ap (λ (o : Option Refusal). verdict o tt) (sym q) in
-    subst (SiteRead file) (sym (p .1 ∙ ap Err (p .2))) (a, answer-in-words file (refuses x) a)
+    subst (SiteRead file) (sym (p .1 ∙ ap Err (p .2))) (a, answer-in-words (questions file) (refuses x) tt a)

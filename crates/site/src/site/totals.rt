@@ -1,0 +1,1 @@
+// What a site reports of its water.
