@@ -9,19 +9,23 @@ use lib.ListN.{length, getD, replicate, take}
 use Rattle.std.proofs.shelf.Lists.{take-at}
 use Rattle.water.specs.Tree.{Tree, size}
 use Rattle.site.specs.Held.{tabled}
-use Rattle.site.specs.Measures.{ownIn}
+use Rattle.site.specs.Measures.{drainedSum, ownIn}
 use Rattle.site.specs.Records.{records}
 use Rattle.site.specs.declared.node.Node.{Node}
 use Rattle.site.specs.declared.node.Node.the-variants.{Unused}
 use Rattle.site.specs.declared.site.Site.{Site}
 use Rattle.site.specs.declared.table.Table.{Table}
-use Rattle.site.proofs.Measured.{records-small}
-use Rattle.site.proofs.Trees.{length-records}
+use Rattle.site.proofs.Measured.{outflow-few, outflow-is, records-small}
+use Rattle.site.proofs.Trees.{length-records, size-pos}
 
 -- Every site has at most 1,023 records.
 pub held-few : (site : Site) → site .table .count ≤ 1023
 held-few site =
     ∥∥₁-elim (site .holds) le-prop (λ h. omega (arith, ap (λ (t : Table). t .count) (h .1 .tree), h .1 .stands .sound .formed .few))
+
+-- Every site has a record.
+pub held-some : (site : Site) → 0 < site .table .count
+held-some site = ∥∥₁-elim (site .holds) le-prop (λ h. omega (arith, ap (λ (t : Table). t .count) (h .1 .tree), size-pos (h .0 .tree)))
 
 -- The used part of a tree's table is its records.
 pub used-is : (table : Table) (t : Tree) → table ≡ tabled t → take (table .count) (table .nodes) ≡ records t
@@ -39,3 +43,8 @@ used-small site xs e k =
 
 pub tree-few : (site : Site) (t : Tree) → site .table ≡ tabled t → size t ≤ 1023
 tree-few site t e = omega (arith, held-few site, ap (λ (x : Table). x .count) e)
+
+pub used-drained : (site : Site) (xs : List Node) → ((t : Tree) → site .table ≡ tabled t → xs ≡ records t) → drainedSum xs < 2 ^ 64
+used-drained site xs e =
+    ∥∥₁-elim (site .holds) le-prop (λ h.
+    omega (arith, ap drainedSum (e (h .0 .tree) (h .1 .tree)), outflow-is (h .0 .tree), outflow-few (h .0 .tree), h .1 .stands .balance, h .1 .stands .limit))

@@ -8,6 +8,8 @@ pub mod Measured
 pub mod Places
 pub mod Pours
 pub mod Raining
+pub mod Seen
+pub mod Sides
 pub mod Sounds
 pub mod Taken
 pub mod Trees

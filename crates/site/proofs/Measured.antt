@@ -11,25 +11,41 @@ use Rattle.std.specs.declared.option.Option.the-variants.{Some, None}
 use Rattle.stack.specs.Stack.{newest}
 use Rattle.water.specs.Tree.{Tree, basin, outlet, merge, size, volume, height}
 use Rattle.water.specs.Formed.{Shaped}
-use Rattle.site.specs.Measures.{ownIn, ownSum, joinedHeights, heightsAfter, heights, newestHeight}
+use Rattle.water.specs.Water.{held, outflow}
+use Rattle.site.specs.Filling.{drained}
+use Rattle.site.specs.Measures.{nodeSum, ownIn, ownSum, drainedSum, joinedHeights, heightsAfter, heights, newestHeight}
 use Rattle.site.specs.Records.{records}
 use Rattle.site.specs.declared.node.Node.{Node}
 use Rattle.site.specs.declared.node.Node.the-variants.{Unused, Basin, Outlet, Merge}
 
-own-sum-append : (xs ys : List Node) → ownSum (xs ++ ys) ≡ ownSum xs + ownSum ys
-own-sum-append [] ys = omega arith
-own-sum-append (x ∷ xs) ys = let h = own-sum-append xs ys in omega arith
+node-sum-append : (f : Node → ℕ) (xs ys : List Node) → nodeSum f (xs ++ ys) ≡ nodeSum f xs + nodeSum f ys
+node-sum-append f [] ys = omega arith
+node-sum-append f (x ∷ xs) ys = let h = node-sum-append f xs ys in omega arith
+
+-- The sum over the records of a merge: those of both sides, and its own.
+merge-sum : (f : Node → ℕ) (x : Node) (l r : Tree) →
+    nodeSum f ((records l ++ records r) ++ (x ∷ [])) ≡ nodeSum f (records l) + nodeSum f (records r) + f x
+merge-sum f x l r =
+    let s = node-sum-append f (records l ++ records r) (x ∷ []) in
+    let u = node-sum-append f (records l) (records r) in
+    omega arith
 
 -- The own volumes of the records make the total volume of the tree.
 pub volume-is : (t : Tree) → ownSum (records t) ≡ volume t
 volume-is (basin n o w) = omega arith
 volume-is (outlet n w) = refl
-volume-is (merge n o w c a b l r) =
-    let p = volume-is l in
-    let q = volume-is r in
-    let s = own-sum-append (records l ++ records r) (Merge o w c a b ∷ []) in
-    let u = own-sum-append (records l) (records r) in
-    omega arith
+volume-is (merge n o w c a b l r) = omega (arith, volume-is l, volume-is r, merge-sum ownIn (Merge o w c a b) l r)
+
+-- What the outlets have taken makes the outflow of the tree.
+pub outflow-is : (t : Tree) → drainedSum (records t) ≡ outflow t
+outflow-is (basin n o w) = omega arith
+outflow-is (outlet n w) = omega arith
+outflow-is (merge n o w c a b l r) = omega (arith, outflow-is l, outflow-is r, merge-sum drained (Merge o w c a b) l r)
+
+pub outflow-few : (t : Tree) → outflow t ≤ held t
+outflow-few (basin n o w) = omega arith
+outflow-few (outlet n w) = omega arith
+outflow-few (merge n o w c a b l r) = omega (arith, outflow-few l, outflow-few r)
 
 -- One record adds at most one height.
 pub heights-grow : (x : Node) (s : List ℕ) → length (heightsAfter x s) ≤ length s + 1

@@ -56,6 +56,12 @@ module _ (nodes : List Node) (root : ℕ) (before : List Node) (t : Tree) (after
       ∙ append-assoc before (below t) (x ∷ after)
       ∙ ap (λ (xs : List Node). before ++ xs) (sym (append-assoc (below t) (x ∷ []) after))
 
+-- A merge in the table is a merge of the tree.
+pub as-merge : (t : Tree) (o w c x y : ℕ) → topNode t ≡ Merge o w c x y → (n : ℕ) × (l : Tree) × (r : Tree) × (t ≡ merge n o w c x y l r)
+as-merge (basin n p q) o w c x y e = let z : _≡_ {A = ℕ} 0 1 = cc in absurd (omega arith)
+as-merge (outlet n q) o w c x y e = let z : _≡_ {A = ℕ} 0 1 = cc in absurd (omega arith)
+as-merge (merge n p q i j k l r) o w c x y e = (n, l, r, cc)
+
 -- The two sides of a merge stand before it, one behind the other.
 module _ (nodes : List Node) (root : ℕ) (before : List Node) (n o w c x y : ℕ) (l r : Tree) (after : List Node)
     (s : Subtree nodes root before (merge n o w c x y l r) after) where

@@ -10,7 +10,7 @@ use Rattle.std.proofs.shelf.Tests.{cases-lt}
 use Rattle.water.specs.Tree.{Tree, basin, outlet, merge, size, dried}
 use Rattle.water.specs.Parts.{number}
 use Rattle.water.specs.Pour.{excess, poured}
-use Rattle.water.specs.Water.{outflow}
+use Rattle.water.specs.Water.{held}
 use Rattle.water.proofs.Numbers.{last-number}
 use Rattle.water.proofs.Order.{obeys}
 use Rattle.water.proofs.Shape.{shape-kept}
@@ -20,7 +20,7 @@ use Rattle.site.specs.Records.{records}
 use Rattle.site.specs.Subtree.{PouredAt, Rooted, SidesFrom, Subtree}
 use Rattle.site.specs.declared.node.Node.{Node}
 use Rattle.site.specs.declared.node.Node.the-variants.{Unused, Basin, Outlet, Merge}
-use Rattle.site.proofs.Places.{topNode, below, at-top, set-top, left-in, right-in, left-changed, right-changed}
+use Rattle.site.proofs.Places.{topNode, as-merge, below, at-top, set-top, left-in, right-in, left-changed, right-changed}
 use Rattle.site.proofs.Trees.{size-pos}
 
 -- No more leaves a tree than fell.
@@ -52,8 +52,8 @@ pub record Runs (nodes : List Node) (root : ℕ) (before : List Node) (t : Tree)
   pub rest : overNode (excess landing (excess leaf v one) two) (topNode t) ≡ excess leaf v t
   pub lessFirst : first < root
   pub lessSecond : second < root
-  pub outFirst : outflow one ≤ outflow t
-  pub outSecond : outflow two ≤ outflow t
+  pub heldFirst : held one ≤ held t
+  pub heldSecond : held two ≤ held t
 
 -- The leaf is on the left.
 runs-left : (nodes : List Node) (root : ℕ) (before : List Node) (n o w c x y : ℕ) (l r : Tree) (after : List Node) (leaf v : ℕ) →
@@ -85,8 +85,8 @@ runs-left nodes root before n o w c x y l r after leaf v s h =
       rest = sym (excess-left leaf v n o w c x y l r h);
       lessFirst = omega (arith, s .numbered .3, s .top, size-pos r, s .numbered .1, size-pos l);
       lessSecond = omega (arith, s .numbered .3, s .top, size-pos r);
-      outFirst = omega arith;
-      outSecond = omega arith;
+      heldFirst = omega arith;
+      heldSecond = omega arith;
     }
 
 -- The leaf is on the right.
@@ -119,8 +119,8 @@ runs-right nodes root before n o w c x y l r after leaf v s h =
       rest = sym (excess-right leaf v n o w c x y l r h);
       lessFirst = omega (arith, s .numbered .3, s .top, size-pos r);
       lessSecond = omega (arith, s .numbered .3, s .top, size-pos r, s .numbered .1, size-pos l);
-      outFirst = omega arith;
-      outSecond = omega arith;
+      heldFirst = omega arith;
+      heldSecond = omega arith;
     }
 
 -- The sides as the code has them.
@@ -133,52 +133,36 @@ runs-as nodes root before t after leaf v first second landing f g k e run =
     (subst (λ (i : ℕ). Runs nodes root before t after leaf v f g i) (sym (e .2)) run))
 
 -- Where a merge stands in the table, pouring runs through its sides.
-runs-top : (nodes : List Node) (root : ℕ) (before : List Node) (t : Tree) (after : List Node) (leaf v first second landing o w c x y : ℕ) →
-    Subtree nodes root before t after → topNode t ≡ Merge o w c x y → SidesFrom leaf root c x y first second landing →
-    Runs nodes root before t after leaf v first second landing
-runs-top nodes root before (basin n p q) after leaf v first second landing o w c x y s e d = let z : _≡_ {A = ℕ} 0 1 = cc in absurd (omega arith)
-runs-top nodes root before (outlet n p) after leaf v first second landing o w c x y s e d = let z : _≡_ {A = ℕ} 0 1 = cc in absurd (omega arith)
-runs-top nodes root before (merge n p q i j k l r) after leaf v first second landing o w c x y s e d =
-    let ic : c ≡ i = cc in
-    let jx : x ≡ j = cc in
-    let ky : y ≡ k = cc in
+runs-merge : (nodes : List Node) (root : ℕ) (before : List Node) (n o w c x y : ℕ) (l r : Tree) (after : List Node) (leaf v first second landing : ℕ) →
+    Subtree nodes root before (merge n o w c x y l r) after → SidesFrom leaf root c x y first second landing →
+    Runs nodes root before (merge n o w c x y l r) after leaf v first second landing
+runs-merge nodes root before n o w c x y l r after leaf v first second landing s d =
     ⊎-elim
-    (λ h. let f = d .leftward (omega arith) in
-    runs-as nodes root before (merge n p q i j k l r) after leaf v first second landing (i - 1) (root - 1) k
-    (f .0 ∙ ap (λ (z : ℕ). z - 1) ic, f .1, f .2 ∙ ky) (runs-left nodes root before n p q i j k l r after leaf v s h))
-    (λ h. let f = d .rightward (omega arith) in
-    runs-as nodes root before (merge n p q i j k l r) after leaf v first second landing (root - 1) (i - 1) j
-    (f .0, f .1 ∙ ap (λ (z : ℕ). z - 1) ic, f .2 ∙ jx) (runs-right nodes root before n p q i j k l r after leaf v s h))
-    (cases-lt leaf i)
-
--- A merge and its right side's first record are not the first of the table.
-later-top : (nodes : List Node) (root : ℕ) (before : List Node) (t : Tree) (after : List Node) (o w c x y : ℕ) →
-    Subtree nodes root before t after → topNode t ≡ Merge o w c x y → (0 < c) × (0 < root)
-later-top nodes root before (basin n p q) after o w c x y s e = let z : _≡_ {A = ℕ} 0 1 = cc in absurd (omega arith)
-later-top nodes root before (outlet n p) after o w c x y s e = let z : _≡_ {A = ℕ} 0 1 = cc in absurd (omega arith)
-later-top nodes root before (merge n p q i j k l r) after o w c x y s e =
-    let ic : c ≡ i = cc in
-    (omega (arith, s .numbered .1, size-pos l), omega (arith, s .numbered .3, s .top, size-pos r))
+    (λ h. runs-as nodes root before (merge n o w c x y l r) after leaf v first second landing (c - 1) (root - 1) y (d .leftward h)
+    (runs-left nodes root before n o w c x y l r after leaf v s h))
+    (λ h. runs-as nodes root before (merge n o w c x y l r) after leaf v first second landing (root - 1) (c - 1) x (d .rightward h)
+    (runs-right nodes root before n o w c x y l r after leaf v s h))
+    (cases-lt leaf c)
 
 -- The table has a merge at `root`.
 module _ (nodes : List Node) (root o w c x y : ℕ) (is : getD nodes root Unused ≡ Merge o w c x y) where
   is-top : (before : List Node) (t : Tree) (after : List Node) → Subtree nodes root before t after → topNode t ≡ Merge o w c x y
   is-top before t after s = sym (at-top nodes root before t after s) ∙ is
 
-  pub later : (before : List Node) (t : Tree) (after : List Node) → Subtree nodes root before t after → (0 < c) × (0 < root)
-  later before t after s = later-top nodes root before t after o w c x y s (is-top before t after s)
-
   module _ (leaf v first second landing : ℕ) (d : SidesFrom leaf root c x y first second landing) where
     runs : (before : List Node) (t : Tree) (after : List Node) → Subtree nodes root before t after →
         Runs nodes root before t after leaf v first second landing
-    runs before t after s = runs-top nodes root before t after leaf v first second landing o w c x y s (is-top before t after s) d
+    runs before t after s =
+        let m = as-merge t o w c x y (is-top before t after s) in
+        subst (λ (z : Tree). Runs nodes root before z after leaf v first second landing) (sym (m .3))
+        (runs-merge nodes root before (m .0) o w c x y (m .1) (m .2) after leaf v first second landing (subst (λ (z : Tree). Subtree nodes root before z after) (m .3) s) d)
 
     -- The first side can take what falls there.
     pub first-rooted : ∥ Rooted nodes root v ∥₁ → (first < root) × ∥ Rooted nodes first v ∥₁
     first-rooted h = (
       ∥∥₁-elim h le-prop (λ k. runs (k .0) (k .1) (k .2) (k .3) .lessFirst),
       ∥∥₁-map h (λ k. let u = runs (k .0) (k .1) (k .2) (k .3) in
-      (u .beforeFirst, u .one, u .afterFirst, u .inFirst, omega (arith, k .4, u .outFirst))),
+      (u .beforeFirst, u .one, u .afterFirst, u .inFirst, omega (arith, k .4, u .heldFirst))),
     )
 
     module _ (ns : List Node) (spilled : ℕ) (p : PouredAt nodes first leaf v ns spilled) where
@@ -189,7 +173,7 @@ module _ (nodes : List Node) (root o w c x y : ℕ) (is : getD nodes root Unused
         ∥∥₁-map h (λ k. let u = runs (k .0) (k .1) (k .2) (k .3) in
         let e = p .rest (u .beforeFirst) (u .one) (u .afterFirst) (u .inFirst) in
         (u .beforeSecond, u .two, u .afterSecond, u .inSecond ns (p .water (u .beforeFirst) (u .one) (u .afterFirst) (u .inFirst)),
-        omega (arith, k .4, u .outSecond, e, excess-few leaf v (u .one)))),
+        omega (arith, k .4, u .heldSecond, e, excess-few leaf v (u .one)))),
       )
 
       module _ (ms : List Node) (over : ℕ) (q : PouredAt ns second landing spilled ms over) where
@@ -228,12 +212,12 @@ module _ (nodes : List Node) (root o w c x y : ℕ) (is : getD nodes root Unused
 pub record Alone (nodes : List Node) (root : ℕ) (before : List Node) (t : Tree) (after : List Node) (leaf v : ℕ) : Type 0 where
   pub water : set nodes root (filledNode v (getD nodes root Unused)) ≡ before ++ (records (poured leaf v t) ++ after)
   pub rest : overNode v (getD nodes root Unused) ≡ excess leaf v t
-  pub drains : drained (getD nodes root Unused) ≡ outflow t
+  pub drains : drained (getD nodes root Unused) ≤ held t
 
 -- A lone record takes what it has room for.
 alone-as : (nodes : List Node) (root : ℕ) (before : List Node) (t : Tree) (after : List Node) (leaf v : ℕ) →
     Subtree nodes root before t after → below t ≡ [] → records (poured leaf v t) ≡ filledNode v (topNode t) ∷ [] →
-    overNode v (topNode t) ≡ excess leaf v t → drained (topNode t) ≡ outflow t → Alone nodes root before t after leaf v
+    overNode v (topNode t) ≡ excess leaf v t → drained (topNode t) ≤ held t → Alone nodes root before t after leaf v
 alone-as nodes root before t after leaf v s none p e d =
     let top : getD nodes root Unused ≡ topNode t = at-top nodes root before t after s in
     record {
@@ -242,15 +226,15 @@ alone-as nodes root before t after leaf v s none p e d =
           ∙ ap (λ (xs : List Node). before ++ ((xs ++ (filledNode v (topNode t) ∷ [])) ++ after)) none
           ∙ ap (λ (xs : List Node). before ++ (xs ++ after)) (sym p);
       rest = ap (overNode v) top ∙ e;
-      drains = ap drained top ∙ d;
+      drains = omega (arith, ap drained top);
     }
 
 pub alone : (nodes : List Node) (root leaf v : ℕ) → ((o w c x y : ℕ) → getD nodes root Unused ≡ Merge o w c x y → ⊥) →
     (before : List Node) (t : Tree) (after : List Node) → Subtree nodes root before t after → Alone nodes root before t after leaf v
 alone nodes root leaf v d before (basin n o w) after s =
-    alone-as nodes root before (basin n o w) after leaf v s refl (ap records (poured-basin leaf v n o w)) (sym (excess-basin leaf v n o w)) refl
+    alone-as nodes root before (basin n o w) after leaf v s refl (ap records (poured-basin leaf v n o w)) (sym (excess-basin leaf v n o w)) (omega arith)
 alone nodes root leaf v d before (outlet n w) after s =
-    alone-as nodes root before (outlet n w) after leaf v s refl (ap records (poured-outlet leaf v n w)) (sym (excess-outlet leaf v n w)) refl
+    alone-as nodes root before (outlet n w) after leaf v s refl (ap records (poured-outlet leaf v n w)) (sym (excess-outlet leaf v n w)) (omega arith)
 alone nodes root leaf v d before (merge n o w c x y l r) after s =
     absurd (d o w c x y (at-top nodes root before (merge n o w c x y l r) after s))
 

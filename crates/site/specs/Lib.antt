@@ -11,3 +11,4 @@ pub mod Records
 pub mod Shows
 pub mod Spell
 pub mod Subtree
+pub mod Surveys

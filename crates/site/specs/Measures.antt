@@ -2,6 +2,7 @@
 use mathlib.Core.Path.{_≡_}
 use mathlib.Core.List.{List, [], _∷_}
 use Prim.Native.Nat.{ℕ, _+_, max, min}
+use Rattle.site.specs.Filling.{drained}
 use Rattle.site.specs.declared.node.Node.{Node}
 use Rattle.site.specs.declared.node.Node.the-variants.{Unused, Basin, Outlet, Merge}
 
@@ -12,10 +13,18 @@ ownIn (Basin o w) = o
 ownIn (Outlet w) = 0
 ownIn (Merge o w c a b) = o
 
+-- The sum of a number that each record has.
+abbrev pub nodeSum : (Node → ℕ) → List Node → ℕ
+nodeSum f [] = 0
+nodeSum f (x ∷ xs) = f x + nodeSum f xs
+
 -- The sum of the own volumes.
 abbrev pub ownSum : List Node → ℕ
-ownSum [] = 0
-ownSum (x ∷ xs) = ownIn x + ownSum xs
+ownSum xs = nodeSum ownIn xs
+
+-- The sum of what the outlets have taken.
+abbrev pub drainedSum : List Node → ℕ
+drainedSum xs = nodeSum drained xs
 
 -- A merge stands on the two newest heights, and is one higher than the greater. No height comes near 65,535.
 abbrev pub joinedHeights : List ℕ → List ℕ

@@ -1,6 +1,7 @@
 // Sums and heights, in one pass over the records.
 ghost use Prim.Native.Nat.{ℕ, _*_, _^_, _+_, _<_, _≤_};
-ghost use Rattle.site.specs.Measures.{heights, heightsAfter, joinedHeights, newestHeight, ownIn, ownSum};
+ghost use Rattle.site.specs.Filling.{drained};
+ghost use Rattle.site.specs.Measures.{drainedSum, heights, heightsAfter, joinedHeights, newestHeight, ownIn, ownSum};
 ghost use Rattle.site.specs.declared.node.Node.the-variants.{Unused};
 ghost use Rattle.stack.specs.Stack.{capacity, stacked};
 ghost use lib.ListN.{getD, length};
@@ -29,6 +30,28 @@ pub(crate) fn total_volume(nodes: &[Node]) -> u64
     let mut sum = 0;
     for node in nodes {
         sum += own_volume(node);
+    }
+    sum
+}
+
+// The water that an outlet has taken; of any other record 0.
+fn drained_water(node: &Node) -> u64
+    ensures { λ r. ⌜ r ≡ drained (now (node .entry)) ⌝ }
+{
+    match node {
+        Node::Outlet { water } => *water,
+        Node::Unused | Node::Basin { .. } | Node::Merge { .. } => 0,
+    }
+}
+
+/// The sum of what the outlets have taken.
+pub(crate) fn total_outflow(nodes: &[Node]) -> u64
+    requires { ⌜ drainedSum (now nodes) < 2 ^ 64 ⌝ }
+    ensures { λ r. ⌜ r ≡ drainedSum (now (nodes .entry)) ⌝ }
+{
+    let mut sum = 0;
+    for node in nodes {
+        sum += drained_water(node);
     }
     sum
 }

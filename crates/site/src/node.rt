@@ -27,3 +27,11 @@ pub struct Summary {
     pub first: u16,
     pub outlets: u16,
 }
+
+/// What is seen of a subtree: whether it is full, all the water in it, and the level over the leaf in question.
+#[derive(Clone, Copy)]
+pub struct Survey {
+    pub full: bool,
+    pub held: u64,
+    pub level: u64,
+}

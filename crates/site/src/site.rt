@@ -22,6 +22,9 @@ mod load;
 // Asking what it is made of.
 mod shape;
 
+// Where its records stand.
+mod places;
+
 // Rain.
 mod rain;
 

@@ -17,3 +17,6 @@ mod ops;
 
 // Pouring water into it.
 mod pour;
+
+// Going over its water.
+mod survey;

@@ -22,16 +22,13 @@ impl Site {
         ensures rained { λ r. ⌜ ((s : State) → Shows (now (self .entry)) s → isOk r ≡ true → Rained (leaf .0) (litres .0) s (rainedOn leaf litres s)) ⌝ }
         ensures kept { λ r. ⌜ (isOk r ≡ false → now (self .exit) ≡ now (self .entry)) ⌝ }
     {
-        let at = leaf.0 as usize;
-        let count = self.table.count();
-        if !self.table.has_leaf(at, 0, count) {
-            return Err(Refusal::NoLeaf { leaf });
-        }
+        let at = self.leaf_place(leaf)?;
         if litres.0 > RAIN_LIMIT - self.accepted {
             return Err(Refusal::RainLimit { litres });
         }
         // Nothing leaves the site: its outlet takes what no other record has room for.
-        let _ = self.table.pour(count - 1, at, litres.0);
+        let top = self.top();
+        let _ = self.table.pour(top, at, litres.0);
         self.accepted += litres.0;
         Ok(())
     }

@@ -1,56 +1,40 @@
-use mathlib.Core.Path.{_≡_, refl, sym, ap, subst, _∙_}
-use mathlib.Core.Bool.{Bool, true, false}
-use Prim.Native.Nat.{ℕ, _+_, _≤_, _<_, _-_, _^_}
-use native.Mathlib.Omega.{arith}
-use Rattle.std.proofs.shelf.Tests.{false≢true}
+use mathlib.Core.Path.{_≡_, refl, sym, ap, _∙_}
 use mathlib.Core.Logic.{∥∥₁-map}
+use Prim.Native.Nat.{ℕ, _+_, _≤_, _^_}
+use native.Mathlib.Omega.{arith}
+use Rattle.std.proofs.shelf.Results.{err-from-errBy}
+use Rattle.std.proofs.shelf.Tests.{false≢true}
+use Rattle.std.specs.Results.{isOk}
+use Rattle.std.specs.declared.result.Result.the-variants.{Err}
 use Rattle.questions.proofs.Asked.{answer-in-words}
 use Rattle.water.specs.Calls.{rainQuestions, rainedOn}
 use Rattle.water.specs.State.{State}
-use Rattle.water.specs.Tree.{hasLeaf}
 use Rattle.water.proofs.Calling.{rained}
-use Rattle.site.specs.Loader.{leafAmong}
 use Rattle.site.specs.Shows.{Shows}
-use Rattle.site.specs.Subtree.{PouredAt, Rooted}
-use Rattle.site.specs.declared.node.Node.{Node}
-use Rattle.site.specs.declared.site.Site.{Site}
-use mathlib.Core.List.{List}
-use Rattle.site.proofs.Raining.{leaf-found, rain-accepted, rain-no-leaf, rain-past-limit, rained-holds, site-rooted}
+use Rattle.site.proofs.Raining.{leaf-at, leaf-there, rain-accepted, rain-no-leaf, rain-past-limit, rained-holds, site-rooted}
 use Rattle.site.proofs.site.Site.rain.Needs as need
 
--- The top of the tree by the count that was asked for.
-poured-from : (nodes : List Node) (leaf v n m over : ℕ) (ns : List Node) → n ≡ m → PouredAt nodes (n - 1) leaf v ns over → PouredAt nodes (m - 1) leaf v ns over
-poured-from nodes leaf v n m over ns e p = subst (λ (k : ℕ). PouredAt nodes (k - 1) leaf v ns over) e p
-
--- What the table says of the leaf is what the tree says.
-leaf-said : (site : Site) (s : State) (k n : ℕ) (b d : Bool) → Shows site s → n ≡ site .table .count →
-    b ≡ leafAmong (site .table .nodes) k 0 n → b ≡ d → hasLeaf k (s .tree) ≡ d
-leaf-said site s k n b d h e f g =
-    sym (leaf-found site s k h) ∙ ap (λ (m : ℕ). leafAmong (site .table .nodes) k 0 m) (sym e) ∙ sym f ∙ g
-
-pub returns-then-not-has-leaf : need.returns-then-not-has-leaf
-returns-then-not-has-leaf c =
-    let site = c .args .self .now in
+pub returns-in-Break-at : need.returns-in-Break-at
+returns-in-Break-at c =
     let a = c .args .leaf in
     let v = c .args .litres in
-    let answer = λ (s : State) (h : Shows site s).
-    rain-no-leaf a v s (leaf-said site s (a .0) _ _ false h (c .count-count .ensures) (c .has-leaf .ensures) (c .if-not-has-leaf .taken)) in
+    let p = err-from-errBy (c .from-residual .result) (c .from-residual .ensures .1) in
+    let is = p .1 ∙ ap Err (p .2) in
+    let answer = λ (s : State) (h : Shows (c .args .self .now) s). rain-no-leaf a v s (c .in-Break-at .field-0 .0) (c .from-residual .result) (c .in-Break-at .ensures tt s h) is in
     record {
       answer = answer;
       first-no = λ s h. answer-in-words (rainQuestions a v s) _ tt (answer s h);
-      water = λ s h e. absurd (false≢true e);
-      rained = λ s h e. absurd (false≢true e);
+      water = λ s h e. absurd (false≢true (sym (ap isOk is) ∙ e));
+      rained = λ s h e. absurd (false≢true (sym (ap isOk is) ∙ e));
       kept = λ e. refl;
     }
 
 pub returns-then-litres-self : need.returns-then-litres-self
 returns-then-litres-self c =
-    let site = c .args .self .now in
     let a = c .args .leaf in
     let v = c .args .litres in
-    let answer = λ (s : State) (h : Shows site s).
-    rain-past-limit a v s (leaf-said site s (a .0) _ _ true h (c .count-count .ensures) (c .has-leaf .ensures) (c .if-not-has-leaf .left))
-    (omega (arith, c .if-litres-self .taken, h .accepted)) in
+    let answer = λ (s : State) (h : Shows (c .args .self .now) s).
+    rain-past-limit a v s (c .in-Continue-at .at) (c .in-Continue-at .ensures tt s h) (omega (arith, c .if-litres-self .taken, h .accepted)) in
     record {
       answer = answer;
       first-no = λ s h. answer-in-words (rainQuestions a v s) _ tt (answer s h);
@@ -62,36 +46,37 @@ returns-then-litres-self c =
 pub pour-self-requires : need.pour-self-requires
 pour-self-requires c κs =
     let site = c .args .self .now in
-    let v = c .args .litres .0 in
-    let r = site-rooted site v (omega (arith, c .if-litres-self .left, site .limit)) in
-    record {
-      place = omega (arith, r .0, c .count-count .ensures);
-      rooted = subst (λ (n : ℕ). ∥ Rooted (site .table .nodes) (n - 1) v ∥₁) (sym (c .count-count .ensures)) (r .1);
-    }
+    let r = site-rooted site (c .top-top .result) (c .args .litres .0) (c .top-top .ensures) (omega (arith, c .if-litres-self .left, site .limit)) in
+    record { place = r .0; rooted = r .1 }
 
 pub ghost-self : need.ghost-self
 ghost-self c =
     let site = c .args .self .now in
-    let most : site .accepted + c .args .litres .0 ≤ 2 ^ 60 = omega (arith, c .if-litres-self .left, site .limit) in
-    (∥∥₁-map (site .holds) (λ h.
-    (rainedOn (c .args .leaf) (c .args .litres) (h .0),
-    rained-holds (site .table) (c .pour-self .last .self) (site .accepted) (site .pumped) (c .pour-self .result) (c .args .leaf) (c .args .litres) (h .0) (h .1) most
-    (poured-from (site .table .nodes) (c .args .leaf .0) (c .args .litres .0) _ _ _ _ (c .count-count .ensures) (c .pour-self .ensures .water)) (c .pour-self .ensures .count))), (most, tt))
+    let a = c .args .leaf in
+    let v = c .args .litres in
+    let most : site .accepted + v .0 ≤ 2 ^ 60 = omega (arith, c .if-litres-self .left, site .limit) in (
+      ∥∥₁-map (site .holds) (λ h. (
+        rainedOn a v (h .0),
+        rained-holds (site .table) (c .pour-self .last .self) (site .accepted) (site .pumped) (c .top-top .result) (c .in-Continue-at .at) (c .pour-self .result) a v (h .0) (h .1) most
+        (c .top-top .ensures) (leaf-at a (h .0) (c .in-Continue-at .at) (c .in-Continue-at .ensures tt (h .0) (h .1))) (c .pour-self .ensures .water) (c .pour-self .ensures .count),
+      )),
+      (most, tt),
+    )
 
 pub returns : need.returns
 returns c =
     let site = c .args .self .now in
     let a = c .args .leaf in
     let v = c .args .litres in
+    let at = c .in-Continue-at .at in
     let most : site .accepted + v .0 ≤ 2 ^ 60 = omega (arith, c .if-litres-self .left, site .limit) in
-    let leaf = λ (s : State) (h : Shows site s). leaf-said site s (a .0) _ _ true h (c .count-count .ensures) (c .has-leaf .ensures) (c .if-not-has-leaf .left) in
-    let answer = λ (s : State) (h : Shows site s). rain-accepted a v s (leaf s h) (omega (arith, most, h .accepted)) in
+    let answer = λ (s : State) (h : Shows site s). rain-accepted a v s at (c .in-Continue-at .ensures tt s h) (omega (arith, most, h .accepted)) in
     record {
       answer = answer;
       first-no = λ s h. answer-in-words (rainQuestions a v s) _ tt (answer s h);
       water = λ s h e.
-          rained-holds (site .table) (c .pour-self .last .self) (site .accepted) (site .pumped) (c .pour-self .result) a v s h most
-          (poured-from (site .table .nodes) (a .0) (v .0) _ _ _ _ (c .count-count .ensures) (c .pour-self .ensures .water)) (c .pour-self .ensures .count);
-      rained = λ s h e. rained a v s (h .stands) (leaf s h) (omega (arith, most, h .accepted));
+          rained-holds (site .table) (c .pour-self .last .self) (site .accepted) (site .pumped) (c .top-top .result) at (c .pour-self .result) a v s h most
+          (c .top-top .ensures) (leaf-at a s at (c .in-Continue-at .ensures tt s h)) (c .pour-self .ensures .water) (c .pour-self .ensures .count);
+      rained = λ s h e. rained a v s (h .stands) (leaf-there a s at (c .in-Continue-at .ensures tt s h)) (omega (arith, most, h .accepted));
       kept = λ e. absurd (false≢true (sym e));
     }

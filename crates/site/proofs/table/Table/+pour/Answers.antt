@@ -5,7 +5,8 @@ use native.Mathlib.Bridge.{le-prop}
 use native.Mathlib.Omega.{arith}
 use Rattle.water.specs.Tree.{Tree}
 use Rattle.site.specs.Records.{records}
-use Rattle.site.proofs.Pours.{alone, first-rooted, later, nothing, pours-merge, second-rooted, top-dry}
+use Rattle.site.proofs.Sides.{merge-past}
+use Rattle.site.proofs.Pours.{alone, first-rooted, nothing, pours-merge, second-rooted, top-dry}
 use Rattle.site.proofs.table.Table.+pour.Needs as need
 
 pub returns-then-litres-eq0 : need.returns-then-litres-eq0
@@ -38,10 +39,8 @@ returns-in-rest t c =
 pub sides-from-sides-requires : need.sides-from-sides-requires
 sides-from-sides-requires t c κs =
     let m = c .in-Merge in
-    let past = later (c .args .self .now .nodes) (c .args .root) (m .own) (m .water) (m .cut) (m .left) (m .right) (m .is) in (
-      ∥∥₁-elim (c .pre .rooted) le-prop (λ h. past (h .0) (h .1) (h .2) (h .3) .0),
-      ∥∥₁-elim (c .pre .rooted) le-prop (λ h. past (h .0) (h .1) (h .2) (h .3) .1),
-    )
+    let past = merge-past (c .args .self .now .nodes) (c .args .root) (m .own) (m .water) (m .cut) (m .left) (m .right) (m .is) (c .args .litres) (c .pre .rooted) in
+    (past .0, omega (arith, past .0, past .1))
 
 pub pour-spilled-requires : need.pour-spilled-requires
 pour-spilled-requires t c κs =
