@@ -11,6 +11,8 @@ use Rattle.water.specs.Tree.{Tree, size}
 use Rattle.site.specs.Held.{tabled}
 use Rattle.site.specs.Measures.{drainedSum, ownIn}
 use Rattle.site.specs.Records.{records}
+use Rattle.site.specs.Shows.{Shows}
+use Rattle.water.specs.State.{State}
 use Rattle.site.specs.declared.node.Node.{Node}
 use Rattle.site.specs.declared.node.Node.the-variants.{Unused}
 use Rattle.site.specs.declared.site.Site.{Site}
@@ -32,19 +34,16 @@ pub used-is : (table : Table) (t : Tree) → table ≡ tabled t → take (table 
 used-is table t e =
     ap (λ (x : Table). take (x .count) (x .nodes)) e ∙ take-at (records t) (replicate (1023 - size t) Unused) (size t) (length-records t)
 
-pub used-few : (site : Site) (xs : List Node) → ((t : Tree) → site .table ≡ tabled t → xs ≡ records t) → length xs ≤ 1023
+pub used-few : (site : Site) (xs : List Node) → ((s : State) → Shows site s → xs ≡ records (s .tree)) → length xs ≤ 1023
 used-few site xs e =
-    ∥∥₁-elim (site .holds) le-prop (λ h. omega (arith, ap length (e (h .0 .tree) (h .1 .tree)), length-records (h .0 .tree), h .1 .stands .sound .formed .few))
+    ∥∥₁-elim (site .holds) le-prop (λ h. omega (arith, ap length (e (h .0) (h .1)), length-records (h .0 .tree), h .1 .stands .sound .formed .few))
 
-pub used-small : (site : Site) (xs : List Node) → ((t : Tree) → site .table ≡ tabled t → xs ≡ records t) →
+pub used-small : (site : Site) (xs : List Node) → ((s : State) → Shows site s → xs ≡ records (s .tree)) →
     (k : ℕ) → ownIn (getD xs k Unused) < 2 ^ 40
 used-small site xs e k =
-    ∥∥₁-elim (site .holds) le-prop (λ h. subst (λ (l : List Node). ownIn (getD l k Unused) < 2 ^ 40) (sym (e (h .0 .tree) (h .1 .tree))) (records-small (h .0 .tree) (h .1 .stands .sound .formed .shaped) k))
+    ∥∥₁-elim (site .holds) le-prop (λ h. subst (λ (l : List Node). ownIn (getD l k Unused) < 2 ^ 40) (sym (e (h .0) (h .1))) (records-small (h .0 .tree) (h .1 .stands .sound .formed .shaped) k))
 
-pub tree-few : (site : Site) (t : Tree) → site .table ≡ tabled t → size t ≤ 1023
-tree-few site t e = omega (arith, held-few site, ap (λ (x : Table). x .count) e)
-
-pub used-drained : (site : Site) (xs : List Node) → ((t : Tree) → site .table ≡ tabled t → xs ≡ records t) → drainedSum xs < 2 ^ 64
+pub used-drained : (site : Site) (xs : List Node) → ((s : State) → Shows site s → xs ≡ records (s .tree)) → drainedSum xs < 2 ^ 64
 used-drained site xs e =
     ∥∥₁-elim (site .holds) le-prop (λ h.
-    omega (arith, ap drainedSum (e (h .0 .tree) (h .1 .tree)), outflow-is (h .0 .tree), outflow-few (h .0 .tree), h .1 .stands .balance, h .1 .stands .limit))
+    omega (arith, ap drainedSum (e (h .0) (h .1)), outflow-is (h .0 .tree), outflow-few (h .0 .tree), h .1 .stands .balance, h .1 .stands .limit))

@@ -9,11 +9,13 @@ use Rattle.std.specs.declared.result.Result.the-variants.{Ok, Err}
 use Rattle.std.specs.declared.option.Option.the-variants.{Some, None}
 use Rattle.questions.specs.Ask.{FirstNo, firstNo, verdict}
 use Rattle.terrain.specs.declared.refusal.Refusal.{Refusal}
+use Rattle.water.specs.State.{untouched}
 use Rattle.water.specs.Tree.{Tree, dried}
 use Rattle.water.specs.Formed.{Formed}
 use Rattle.site.specs.Held.{tabled}
 use Rattle.site.specs.Postorder.{postorder, recordsIn}
 use Rattle.site.specs.Questions.{questions}
+use Rattle.site.specs.Shows.{Shows}
 use Rattle.site.specs.Spell.{countIn, formatIn, treeIn}
 use Rattle.site.specs.declared.site.Site.{Site}
 use Rattle.site.specs.declared.table.Table.{Table}
@@ -23,15 +25,12 @@ abbrev pub OnlyTree : List ℕ → Type 0
 OnlyTree file =
     (t : Tree) → Formed t → dried t ≡ t → postorder t ≡ recordsIn (formatIn file) file (countIn file) → t ≡ treeIn file
 
--- The table holds exactly the tree that the records spell in postorder, dry, and all sums are zero.
+-- The site is in the state of exactly the tree that the records spell in postorder, dry, with all sums zero.
 pub record Loaded (file : List ℕ) (site : Site) : Type 0 where
-  pub table : site .table ≡ tabled (treeIn file)
-  pub formed : Formed (treeIn file)
+  pub shows : Shows site (untouched (treeIn file))
   pub dry : dried (treeIn file) ≡ treeIn file
   pub spelled : postorder (treeIn file) ≡ recordsIn (formatIn file) file (countIn file)
   pub only : OnlyTree file
-  pub accepted : site .accepted ≡ 0
-  pub pumped : site .pumped ≡ 0
 
 -- What a whole file gives: its tree as a table if every question is answered yes, else the first answered no.
 pub record TableRead (file : List ℕ) (r : Result Table Refusal) : Type 0 where

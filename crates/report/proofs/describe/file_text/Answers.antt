@@ -1,6 +1,7 @@
 use mathlib.Core.Path.{refl, _∙_}
 use Rattle.std.specs.Of.String.{string-bytes}
 use Rattle.questions.specs.Ask.{firstNo}
+use Rattle.water.specs.State.{untouched}
 use Rattle.site.specs.Questions.{questions}
 use Rattle.site.specs.Spell.{treeIn}
 use Rattle.site.proofs.Loads.{trailer-read}
@@ -28,8 +29,8 @@ returns-in-Ok-load c =
     let file = c .args .file .now in
     let q = verdict-ok (firstNo (questions file)) (c .in-Ok-load .field-0) tt (c .in-Ok-load .ensures tt .answer) .0 in
     let t = trailer-read (c .new .result .file .now) file (c .in-Ok .trailer) (c .new .ensures .file) (c .in-Ok .ensures tt .answer) .1 in
-    let l = c .in-Ok-load .ensures tt .loaded refl .table in
+    let l = c .in-Ok-load .ensures tt .loaded refl .shows in
     let tree = treeIn file in
     let e = site-told file (c .in-Ok .trailer) (c .records .result .now) (c .volume .result) (c .height .result) t
-    (c .records .ensures tree l) (c .volume .ensures tree l) (c .height .ensures tree l) in
+    (c .records .ensures (untouched tree) l) (c .volume .ensures (untouched tree) l) (c .height .ensures (untouched tree) l) in
     made-as string-bytes (c .site-text .result) (e ∙ told-accepted file q) (c .site-text .ensures)

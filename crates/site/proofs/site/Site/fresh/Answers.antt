@@ -9,3 +9,6 @@ use Rattle.site.proofs.site.Site.fresh.Needs as need
 pub ghost-result : need.ghost-result
 ghost-result c =
     (∣ (untouched (outlet 0 0), dry-holds (c .lone-outlet .result) (outlet 0 0) (c .lone-outlet .ensures) outlet-formed refl) ∣₁, (omega arith, tt))
+
+pub returns : need.returns
+returns c = dry-holds (c .lone-outlet .result) (outlet 0 0) (c .lone-outlet .ensures) outlet-formed refl

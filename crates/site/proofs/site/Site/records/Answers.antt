@@ -6,4 +6,4 @@ pub used-requires : need.used-requires
 used-requires c κs = held-few (c .args .self .now)
 
 pub returns : need.returns
-returns c = λ t e. c .used .ensures ∙ used-is (c .args .self .now .table) t e
+returns c = λ s h. c .used .ensures ∙ used-is (c .args .self .now .table) (s .tree) (h .tree)

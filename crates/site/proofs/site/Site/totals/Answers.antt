@@ -16,7 +16,7 @@ total-outflow-requires c κs = used-drained (c .args .self .now) (c .records .re
 
 pub returns : need.returns
 returns c =
-    let out = λ (s : State) (h : Shows (c .args .self .now) s). c .total-outflow .ensures ∙ ap drainedSum (c .records .ensures (s .tree) (h .tree)) ∙ outflow-is (s .tree) in
+    let out = λ (s : State) (h : Shows (c .args .self .now) s). c .total-outflow .ensures ∙ ap drainedSum (c .records .ensures s h) ∙ outflow-is (s .tree) in
     record {
       answer = λ s h. let e = out s h in let a = h .accepted in let p = h .pumped in cc;
       balance = λ s h.

@@ -11,4 +11,4 @@ total-volume-requires c κs = (
 )
 
 pub returns : need.returns
-returns c = λ t e. c .total-volume .ensures ∙ ap ownSum (c .records .ensures t e) ∙ volume-is t
+returns c = λ s h. c .total-volume .ensures ∙ ap ownSum (c .records .ensures s h) ∙ volume-is (s .tree)

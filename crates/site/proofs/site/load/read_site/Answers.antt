@@ -30,13 +30,10 @@ returns c =
       a,
       answer-in-words (questions file) accepts tt a,
       record {
-        table = p .1;
-        formed = h .formed refl;
+        shows = dry-holds (c .in-Continue-table .table) (treeIn file) (p .1) (h .formed refl) (h .dry refl);
         dry = h .dry refl;
         spelled = h .spelled refl;
         only = only-tree file (h .formed refl) (h .dry refl) (h .spelled refl);
-        accepted = refl;
-        pumped = refl;
       },
     )
 
