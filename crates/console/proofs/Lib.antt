@@ -1,0 +1,4 @@
+mod Told
+mod Values
+mod Spaces
+mod Spelling

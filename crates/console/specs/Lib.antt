@@ -1,0 +1,5 @@
+pub mod Answer
+pub mod Case
+pub mod Grammar
+pub mod Parts
+pub mod Reply
