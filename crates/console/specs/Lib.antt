@@ -1,4 +1,5 @@
 pub mod Answer
+pub mod Begin
 pub mod Case
 pub mod Grammar
 pub mod Parts

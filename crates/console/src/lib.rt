@@ -20,3 +20,14 @@ pub use refusal::Refusal;
 mod reply;
 
 pub use reply::Reply;
+
+// The site that the console begins with.
+mod beginning;
+
+pub use beginning::LONGEST_FILE;
+pub use beginning::begin;
+
+// Answering a line.
+mod answering;
+
+pub use answering::answer;

@@ -1,7 +1,8 @@
-// Why a line of the console is refused.
+// Why a line of the console, or the file that it begins with, is refused.
 ghost use Rattle.console.specs.Case.{caseOf};
 ghost use mathlib.Core.Path.{_≡_};
 use questions::Layer;
+use terrain::Refusal as FileRefusal;
 use water::Refusal as WaterRefusal;
 
 /// The question that was answered no.
@@ -11,6 +12,8 @@ pub enum Refusal {
     NotWellFormed,
     /// A question of the call that the line spells.
     Water(WaterRefusal),
+    /// A question of loading the site's file.
+    File(FileRefusal),
 }
 
 impl Refusal {
@@ -21,6 +24,7 @@ impl Refusal {
         match self {
             Refusal::NotWellFormed => 31,
             Refusal::Water(refusal) => refusal.number(),
+            Refusal::File(refusal) => refusal.number(),
         }
     }
 
@@ -31,16 +35,18 @@ impl Refusal {
         match self {
             Refusal::NotWellFormed => Layer::Line,
             Refusal::Water(refusal) => refusal.layer(),
+            Refusal::File(refusal) => refusal.layer(),
         }
     }
 
-    /// What the question is about, 0 where it is about the line as a whole.
+    /// What the question is about, 0 where it is about the line or the call as a whole.
     pub fn place(&self) -> usize
         ensures { λ r. ⌜ r ≡ caseOf (now (self .entry)) .place ⌝ }
     {
         match self {
             Refusal::NotWellFormed => 0,
             Refusal::Water(refusal) => refusal.place(),
+            Refusal::File(refusal) => refusal.place(),
         }
     }
 }
