@@ -1,4 +1,3 @@
-mod Told
 mod Values
 mod Spaces
 mod Spelling

@@ -1,16 +1,12 @@
 -- The line that tells a reply.
-use mathlib.Core.List.{List, [], _∷_, _++_}
+use mathlib.Core.List.{List, [], _∷_}
 use Prim.Native.Nat.{ℕ}
 use lib.Chars.{codes}
 use Rattle.std.specs.Written.{decimal}
+use Rattle.questions.specs.Lines.{line}
 use Rattle.console.specs.Case.{caseOf}
 use Rattle.console.specs.declared.reply.Reply.{Reply}
 use Rattle.console.specs.declared.reply.Reply.the-variants.{Done, Refused, Level, Totals}
-
--- A line: its parts one after another, then the byte that ends it.
-abbrev pub line : List (List ℕ) → List ℕ
-line [] = 10 ∷ []
-line (part ∷ parts) = part ++ line parts
 
 -- Accepted rain is told by `ok`, a refusal by its number, the level and the totals by their litres.
 abbrev pub replyBytes : Reply → List ℕ

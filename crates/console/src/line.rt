@@ -21,18 +21,14 @@ pub(crate) fn parse(line: &[u8]) -> Option<Command>
     }
     match *letter {
         b'R' => {
-            let Some((leaf, litres)) = two_numbers(rest) else {
-                return None;
-            };
+            let (leaf, litres) = two_numbers(rest)?;
             Some(Command::Rain {
                 leaf: Leaf(leaf),
                 litres: Litres(litres),
             })
         }
         b'L' => {
-            let Some(leaf) = number(rest) else {
-                return None;
-            };
+            let leaf = number(rest)?;
             Some(Command::Level { leaf: Leaf(leaf) })
         }
         _ => None,

@@ -38,14 +38,8 @@ fn first_space(bytes: &[u8]) -> Option<usize>
 pub(crate) fn two_numbers(bytes: &[u8]) -> Option<(u64, u64)>
     ensures { λ r. ⌜ ReadsTwo (now (bytes .entry)) r ⌝ }
 {
-    let Some(space) = first_space(bytes) else {
-        return None;
-    };
-    let Some(first) = number(&bytes[..space]) else {
-        return None;
-    };
-    let Some(second) = number(&bytes[space + 1..]) else {
-        return None;
-    };
+    let space = first_space(bytes)?;
+    let first = number(&bytes[..space])?;
+    let second = number(&bytes[space + 1..])?;
     Some((first, second))
 }

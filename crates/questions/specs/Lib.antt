@@ -1,2 +1,3 @@
 pub mod Ask
 pub mod Case
+pub mod Lines

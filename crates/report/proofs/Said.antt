@@ -1,14 +1,7 @@
 -- What a text says so far, and what is left to say.
 use mathlib.Core.List.{List, [], _++_, append-assoc, append-nil}
-use mathlib.Core.Path.{_≡_, _∙_}
+use mathlib.Core.Path.{_≡_}
 use Prim.Native.Nat.{ℕ}
-use Rattle.std.specs.Vec.{made}
-use Rattle.std.specs.declared.result.Result.{Result}
-use Rattle.std.proofs.shelf.Results.{made-weaker}
-
--- A text made of some bytes is made of equal ones.
-pub made-as : {X E : Type 0} (bytes : X → List ℕ) (r : Result X E) {a b : List ℕ} → a ≡ b → made r (λ s. bytes s ≡ a) → made r (λ s. bytes s ≡ b)
-made-as bytes r {a = a} {b = b} e m = made-weaker r (λ s. bytes s ≡ a) (λ s. bytes s ≡ b) (λ s h. h ∙ e) m
 
 -- What is said and what is left stay the whole when the first part of what is left is said.
 pub one-more : (was new more : List ℕ) {after part rest whole : List ℕ} → after ≡ was ++ new → new ≡ part → rest ≡ part ++ more → was ++ rest ≡ whole → after ++ more ≡ whole

@@ -1,4 +1,4 @@
--- Numbers and lines as text.
+-- Numbers as text.
 use mathlib.Core.List.{List, [], _∷_, _++_}
 use Prim.Native.Nat.{ℕ}
 use lib.Chars.{codes}
@@ -8,8 +8,3 @@ use Rattle.std.specs.Written.{decimal}
 abbrev pub numbers : List ℕ → List ℕ
 numbers [] = []
 numbers (n ∷ ns) = codes " " ++ (decimal n ++ numbers ns)
-
--- A line: its parts one after another, then the byte that ends it.
-abbrev pub line : List (List ℕ) → List ℕ
-line [] = 10 ∷ []
-line (part ∷ parts) = part ++ line parts

@@ -3,7 +3,8 @@ use mathlib.Core.List.{List, [], _∷_, _++_}
 use Prim.Native.Nat.{ℕ}
 use lib.Chars.{codes}
 use Rattle.std.specs.Written.{decimal}
-use Rattle.report.specs.Lines.{line, numbers}
+use Rattle.questions.specs.Lines.{line}
+use Rattle.report.specs.Lines.{numbers}
 use Rattle.questions.specs.Case.{Case, layerName}
 use Rattle.terrain.specs.Case.{caseOf}
 use Rattle.terrain.specs.declared.refusal.Refusal.{Refusal}

@@ -4,7 +4,7 @@ use Prim.Native.Nat.{ℕ, _+_}
 use lib.Chars.{codes}
 use lib.ListN.{length}
 use Rattle.std.specs.Written.{decimal}
-use Rattle.report.specs.Lines.{line}
+use Rattle.questions.specs.Lines.{line}
 use Rattle.terrain.specs.declared.trailer.EditionName.{EditionName}
 use Rattle.terrain.specs.declared.trailer.EditionName.the-variants.{First, Second}
 use Rattle.site.specs.declared.node.Node.{Node}

@@ -67,7 +67,7 @@ runs-left nodes root before n o w c x y l r after leaf v s h =
     let s1 : (ns : List Node) → ns ≡ before ++ (records l' ++ (records r ++ (m ∷ after))) → Subtree ns root before (merge n o w c x y l' r) after =
     λ ns p. left-changed nodes root before n o w c x y l r after s l' (shape-kept leaf v l) ns p in
     let s2 : (ns ms : List Node) → ns ≡ before ++ (records l' ++ (records r ++ (m ∷ after))) → ms ≡ (before ++ records l') ++ (records r' ++ (m ∷ after)) →
-        Subtree ms root before (merge n o w c x y l' r') after =
+    Subtree ms root before (merge n o w c x y l' r') after =
     λ ns ms p q. right-changed ns root before n o w c x y l' r after (s1 ns p) r' (shape-kept y e r) ms q in
     record {
       beforeFirst = before;
@@ -101,7 +101,7 @@ runs-right nodes root before n o w c x y l r after leaf v s h =
     let s1 : (ns : List Node) → ns ≡ (before ++ records l) ++ (records r' ++ (m ∷ after)) → Subtree ns root before (merge n o w c x y l r') after =
     λ ns p. right-changed nodes root before n o w c x y l r after s r' (shape-kept leaf v r) ns p in
     let s2 : (ns ms : List Node) → ns ≡ (before ++ records l) ++ (records r' ++ (m ∷ after)) → ms ≡ before ++ (records l' ++ (records r' ++ (m ∷ after))) →
-        Subtree ms root before (merge n o w c x y l' r') after =
+    Subtree ms root before (merge n o w c x y l' r') after =
     λ ns ms p q. left-changed ns root before n o w c x y l r' after (s1 ns p) l' (shape-kept x e l) ms q in
     record {
       beforeFirst = before ++ records l;
@@ -162,7 +162,7 @@ module _ (nodes : List Node) (root o w c x y : ℕ) (is : getD nodes root Unused
     first-rooted h = (
       ∥∥₁-elim h le-prop (λ k. runs (k .0) (k .1) (k .2) (k .3) .lessFirst),
       ∥∥₁-map h (λ k. let u = runs (k .0) (k .1) (k .2) (k .3) in
-      (u .beforeFirst, u .one, u .afterFirst, u .inFirst, omega (arith, k .4, u .heldFirst))),
+          (u .beforeFirst, u .one, u .afterFirst, u .inFirst, omega (arith, k .4, u .heldFirst))),
     )
 
     module _ (ns : List Node) (spilled : ℕ) (p : PouredAt nodes first leaf v ns spilled) where
@@ -171,9 +171,13 @@ module _ (nodes : List Node) (root o w c x y : ℕ) (is : getD nodes root Unused
       second-rooted h = (
         ∥∥₁-elim h le-prop (λ k. runs (k .0) (k .1) (k .2) (k .3) .lessSecond),
         ∥∥₁-map h (λ k. let u = runs (k .0) (k .1) (k .2) (k .3) in
-        let e = p .rest (u .beforeFirst) (u .one) (u .afterFirst) (u .inFirst) in
-        (u .beforeSecond, u .two, u .afterSecond, u .inSecond ns (p .water (u .beforeFirst) (u .one) (u .afterFirst) (u .inFirst)),
-        omega (arith, k .4, u .heldSecond, e, excess-few leaf v (u .one)))),
+            let e = p .rest (u .beforeFirst) (u .one) (u .afterFirst) (u .inFirst) in (
+              u .beforeSecond,
+              u .two,
+              u .afterSecond,
+              u .inSecond ns (p .water (u .beforeFirst) (u .one) (u .afterFirst) (u .inFirst)),
+              omega (arith, k .4, u .heldSecond, e, excess-few leaf v (u .one)),
+            )),
       )
 
       module _ (ms : List Node) (over : ℕ) (q : PouredAt ns second landing spilled ms over) where

@@ -82,9 +82,13 @@ pub site-rooted : (site : Site) (top v : ℕ) → top + 1 ≡ site .table .count
 site-rooted site top v c most = (
   omega (arith, held-few site),
   ∥∥₁-map (site .holds) (λ h.
-  let t : Tree = h .0 .tree in
-  ([], t, replicate (1023 - size t) Unused, whole (site .table) top t c (h .1 .stands .sound .formed .numbered) (h .1 .tree),
-  omega (arith, h .1 .stands .balance, h .1 .accepted))),
+      let t : Tree = h .0 .tree in (
+        [],
+        t,
+        replicate (1023 - size t) Unused,
+        whole (site .table) top t c (h .1 .stands .sound .formed .numbered) (h .1 .tree),
+        omega (arith, h .1 .stands .balance, h .1 .accepted),
+      )),
 )
 
 -- Pouring at the top of the whole tree leaves the table of the tree poured into.

@@ -45,14 +45,14 @@ module _ (nodes : List Node) (root o w c x y : ℕ) (is : getD nodes root Unused
   left-rooted h = (
     omega (arith, merge-past nodes root o w c x y is 0 h .0, merge-past nodes root o w c x y is 0 h .1),
     ∥∥₁-map h (λ k. let d = sides nodes root o w c x y is (k .0) (k .1) (k .2) (k .3) in
-    (k .0, d .left, _, d .inLeft, omega (arith, k .4, ap held (d .whole)))),
+        (k .0, d .left, _, d .inLeft, omega (arith, k .4, ap held (d .whole)))),
   )
 
   pub right-rooted : ∥ Rooted nodes root 0 ∥₁ → (root - 1 < root) × ∥ Rooted nodes (root - 1) 0 ∥₁
   right-rooted h = (
     omega (arith, merge-past nodes root o w c x y is 0 h .0, merge-past nodes root o w c x y is 0 h .1),
     ∥∥₁-map h (λ k. let d = sides nodes root o w c x y is (k .0) (k .1) (k .2) (k .3) in
-    (_, d .right, _, d .inRight, omega (arith, k .4, ap held (d .whole)))),
+        (_, d .right, _, d .inRight, omega (arith, k .4, ap held (d .whole)))),
   )
 
   module _ (leaf : ℕ) (left right : Survey) (p : SurveyedAt nodes (c - 1) leaf left) (q : SurveyedAt nodes (root - 1) leaf right) where

@@ -1,5 +1,7 @@
 use borrow.Author.Tests.{ltb-true, ltb-false}
+use mathlib.Core.Path.{subst, sym}
 use native.Mathlib.Omega.{arith}
+use Rattle.console.specs.Grammar.{Reads}
 use Rattle.console.proofs.Spelling.{level-not-read, level-read, one-byte, rain-not-read, rain-read, totals-read, two-and-rest}
 use Rattle.console.proofs.line.parse.Needs as need
 
@@ -8,22 +10,24 @@ returns-in-79 c =
     let line = c .args .line .now in
     totals-read line (one-byte line 79 (omega (arith, ltb-true, ltb-false)) (omega arith))
 
-pub returns-in-rest-two-numbers : need.returns-in-rest-two-numbers
-returns-in-rest-two-numbers c =
+pub returns-in-Break-leaf : need.returns-in-Break-leaf
+returns-in-Break-leaf c =
     let line = c .args .line .now in
-    rain-not-read line _ (two-and-rest line 82 32 (omega (arith, ltb-false)) (omega arith) (omega arith)) (c .in-rest-two-numbers .ensures tt)
+    subst (Reads line) (sym (c .from-residual .ensures))
+    (rain-not-read line _ (two-and-rest line 82 32 (omega (arith, ltb-false)) (omega arith) (omega arith)) (c .in-Break-leaf .ensures tt))
 
-pub returns-in-rest-number : need.returns-in-rest-number
-returns-in-rest-number c =
+pub returns-in-Break-leaf-2 : need.returns-in-Break-leaf-2
+returns-in-Break-leaf-2 c =
     let line = c .args .line .now in
-    level-not-read line _ (two-and-rest line 76 32 (omega (arith, ltb-false)) (omega arith) (omega arith)) (c .in-rest-number .ensures tt)
+    subst (Reads line) (sym (c .from-residual-in-Break-leaf-2 .ensures))
+    (level-not-read line _ (two-and-rest line 76 32 (omega (arith, ltb-false)) (omega arith) (omega arith)) (c .in-Break-leaf-2 .ensures tt))
 
-pub returns-in-Some : need.returns-in-Some
-returns-in-Some c =
+pub returns-in-Continue-leaf : need.returns-in-Continue-leaf
+returns-in-Continue-leaf c =
     let line = c .args .line .now in
-    rain-read line _ _ _ (two-and-rest line 82 32 (omega (arith, ltb-false)) (omega arith) (omega arith)) (c .in-Some .ensures tt)
+    rain-read line _ _ _ (two-and-rest line 82 32 (omega (arith, ltb-false)) (omega arith) (omega arith)) (c .in-Continue-leaf .ensures tt)
 
-pub returns-in-Some-number : need.returns-in-Some-number
-returns-in-Some-number c =
+pub returns-in-Continue-leaf-2 : need.returns-in-Continue-leaf-2
+returns-in-Continue-leaf-2 c =
     let line = c .args .line .now in
-    level-read line _ _ (two-and-rest line 76 32 (omega (arith, ltb-false)) (omega arith) (omega arith)) (c .in-Some-number .ensures tt)
+    level-read line _ _ (two-and-rest line 76 32 (omega (arith, ltb-false)) (omega arith) (omega arith)) (c .in-Continue-leaf-2 .ensures tt)

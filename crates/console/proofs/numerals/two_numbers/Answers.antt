@@ -1,33 +1,39 @@
-use mathlib.Core.Path.{subst}
+use mathlib.Core.Path.{subst, sym}
 use mathlib.Core.List.{List}
 use Prim.Native.Nat.{ℕ, _+_}
 use Rattle.std.proofs.shelf.Lists.{take-rest}
 use Rattle.console.specs.Grammar.{Numeral}
+use Rattle.console.specs.Parts.{ReadsTwo}
 use Rattle.console.proofs.Spaces.{around-space, no-two, only-two, two-around}
 use Rattle.console.proofs.numerals.two_numbers.Needs as need
 
-pub returns-in-rest : need.returns-in-rest
-returns-in-rest c m n t = no-two (c .args .bytes .now) m n (c .in-rest .ensures tt) t
-
-pub returns-in-rest-number : need.returns-in-rest-number
-returns-in-rest-number c m n t =
-    let f = c .in-Some .ensures tt in
-    c .in-rest-number .ensures tt m (around-space (c .args .bytes .now) (c .in-Some .space) m n (f .1) (f .2) t .0)
-
-pub returns-in-rest-number-2 : need.returns-in-rest-number-2
-returns-in-rest-number-2 c m n t =
-    let f = c .in-Some .ensures tt in
+pub returns-in-Break-space : need.returns-in-Break-space
+returns-in-Break-space c =
     let bs : List ℕ = c .args .bytes .now in
+    subst (ReadsTwo bs) (sym (c .from-residual .ensures)) (λ m n t. no-two bs m n (c .in-Break-space .ensures tt) t)
+
+pub returns-in-Break-first : need.returns-in-Break-first
+returns-in-Break-first c =
+    let bs : List ℕ = c .args .bytes .now in
+    let f = c .in-Continue-space .ensures tt in
+    subst (ReadsTwo bs) (sym (c .from-residual-in-Break-first .ensures))
+    (λ m n t. c .in-Break-first .ensures tt m (around-space bs (c .in-Continue-space .space) m n (f .1) (f .2) t .0))
+
+pub returns-in-Break-second : need.returns-in-Break-second
+returns-in-Break-second c =
+    let bs : List ℕ = c .args .bytes .now in
+    let i : ℕ = c .in-Continue-space .space in
+    let f = c .in-Continue-space .ensures tt in
     let P : List ℕ → Type 0 = λ l. (k : ℕ) → Numeral l k → ⊥ in
-    subst P (take-rest bs (c .in-Some .space + 1)) (c .in-rest-number-2 .ensures tt) n
-    (around-space bs (c .in-Some .space) m n (f .1) (f .2) t .1)
+    let none : P _ = subst P (take-rest bs (i + 1)) (c .in-Break-second .ensures tt) in
+    subst (ReadsTwo bs) (sym (c .from-residual-in-Break-second .ensures)) (λ m n t. none n (around-space bs i m n (f .1) (f .2) t .1))
 
 pub returns : need.returns
 returns c =
-    let f = c .in-Some .ensures tt in
     let bs : List ℕ = c .args .bytes .now in
-    let i : ℕ = c .in-Some .space in
-    let P : List ℕ → Type 0 = λ l. Numeral l (c .in-Some-number-2 .second) in
-    let x = c .in-Some-number .ensures tt in
-    let y = subst P (take-rest bs (i + 1)) (c .in-Some-number-2 .ensures tt) in
+    let i : ℕ = c .in-Continue-space .space in
+    let f = c .in-Continue-space .ensures tt in
+    let P : List ℕ → Type 0 = λ l. Numeral l (c .in-Continue-second .second) in
+    let x = c .in-Continue-first .ensures tt in
+    let y = subst P (take-rest bs (i + 1)) (c .in-Continue-second .ensures tt) in
     (two-around bs i _ _ (f .0) (f .1) x y, λ m n t. only-two bs i _ _ m n (f .1) (f .2) x y t)

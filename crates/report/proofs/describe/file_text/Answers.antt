@@ -6,7 +6,7 @@ use Rattle.site.specs.Questions.{questions}
 use Rattle.site.specs.Spell.{treeIn}
 use Rattle.site.proofs.Loads.{trailer-read}
 use Rattle.questions.proofs.Asked.{verdict-err, verdict-ok}
-use Rattle.report.proofs.Said.{made-as}
+use Rattle.questions.proofs.Texts.{made-as}
 use Rattle.report.proofs.Told.{site-told, told-accepted, told-refused, trailer-refuses}
 use Rattle.report.proofs.describe.file_text.Needs as need
 

@@ -1,6 +1,6 @@
 use mathlib.Core.List.{_∷_, append-nil}
 use mathlib.Core.Path.{ap, sym}
-use Rattle.report.proofs.Said.{made-as}
+use Rattle.questions.proofs.Texts.{made-as}
 use Rattle.std.specs.Of.String.{string-bytes}
 use Rattle.std.specs.Written.{decimal}
 use Rattle.report.proofs.numbers.spaced_number.Needs as need

@@ -1,5 +1,5 @@
 use mathlib.Core.Path.{ap, sym}
-use Rattle.report.proofs.Said.{made-as}
+use Rattle.questions.proofs.Texts.{made-as}
 use Rattle.report.specs.SiteLines.{nodeLine}
 use Rattle.std.specs.Of.String.{string-bytes}
 use Rattle.report.proofs.site_lines.node_line.Needs as need

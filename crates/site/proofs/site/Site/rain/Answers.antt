@@ -58,7 +58,7 @@ ghost-self c =
       ∥∥₁-map (site .holds) (λ h. (
         rainedOn a v (h .0),
         rained-holds (site .table) (c .pour-self .last .self) (site .accepted) (site .pumped) (c .top-top .result) (c .in-Continue-at .at) (c .pour-self .result) a v (h .0) (h .1) most
-        (c .top-top .ensures) (leaf-at a (h .0) (c .in-Continue-at .at) (c .in-Continue-at .ensures tt (h .0) (h .1))) (c .pour-self .ensures .water) (c .pour-self .ensures .count),
+            (c .top-top .ensures) (leaf-at a (h .0) (c .in-Continue-at .at) (c .in-Continue-at .ensures tt (h .0) (h .1))) (c .pour-self .ensures .water) (c .pour-self .ensures .count),
       )),
       (most, tt),
     )
