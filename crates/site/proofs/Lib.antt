@@ -5,6 +5,7 @@ pub mod Holding
 pub mod Listed
 pub mod Loads
 pub mod Measured
+pub mod OneTree
 pub mod Places
 pub mod Pours
 pub mod Raining
