@@ -6,24 +6,22 @@ use mathlib.Core.Logic.{∥∥₁-elim, ∥∥₁-map}
 use Prim.Native.Nat.{ℕ, _+_, _-_, _≤_, _<_, _^_}
 use native.Mathlib.Bridge.{le-prop}
 use native.Mathlib.Omega.{arith}
-use lib.Dec.{leb}
 use lib.ListN.{replicate}
-use Rattle.std.proofs.shelf.Tests.{le-leb, lt-leb}
+use Rattle.std.proofs.shelf.Tests.{leb-true}
 use Rattle.std.specs.declared.option.Option.{Option}
 use Rattle.std.specs.declared.option.Option.the-variants.{None}
 use Rattle.std.specs.declared.result.Result.{Result}
 use Rattle.std.specs.declared.result.Result.the-variants.{Ok, Err}
-use Rattle.questions.specs.Ask.{ask, firstNo, verdict}
-use Rattle.questions.proofs.Asked.{all-passed, all-yes, passed, some-stopped, stopped, verdict-err, verdict-ok}
+use Rattle.questions.specs.Ask.{firstNo, verdict}
+use Rattle.questions.proofs.Asked.{all-passed, all-yes, some-stopped, verdict-err, verdict-ok}
 use Rattle.water.specs.Tree.{Tree, basin, outlet, merge, size, hasLeaf}
 use Rattle.water.specs.Formed.{Numbered}
 use Rattle.water.specs.Pour.{poured}
 use Rattle.water.specs.Water.{held}
 use Rattle.water.specs.Level.{level}
 use Rattle.water.specs.State.{State, litres}
-use Rattle.water.specs.Calls.{levelQuestions, rainQuestions, rainedOn}
+use Rattle.water.specs.Calls.{levelQuestions, limitQuestion, rainQuestions, rainedOn}
 use Rattle.water.specs.declared.refusal.Refusal.{Refusal}
-use Rattle.water.specs.declared.refusal.Refusal.the-variants.{RainLimit}
 use Rattle.water.specs.declared.units.Leaf.{Leaf}
 use Rattle.water.specs.declared.units.Litres.{Litres}
 use Rattle.water.proofs.Calling.{rained-stands}
@@ -48,9 +46,6 @@ accepts = Ok tt
 
 abbrev levelAnswer : Litres → Result Litres Refusal
 levelAnswer v = Ok v
-
-abbrev refuses : Refusal → Result (Unit {0}) Refusal
-refuses refusal = Err refusal
 
 -- The leaves of the tree are found in the table.
 pub leaf-found : (site : Site) (s : State) (k : ℕ) → Shows site s →
@@ -92,13 +87,13 @@ site-rooted site top v c most = (
 )
 
 -- Pouring at the top of the whole tree leaves the table of the tree poured into.
-pub rained-holds : (table new : Table) (a p top at over : ℕ) (leaf : Leaf) (v : Litres) (s : State) → Holds table a p s → a + v .0 ≤ 2 ^ 60 →
+pub rained-holds : (table new : Table) (a p k top at over : ℕ) (leaf : Leaf) (v : Litres) (s : State) → Holds table a p s → (k ≡ a + v .0) × (a + v .0 ≤ 2 ^ 60) →
     top + 1 ≡ table .count → at ≡ leaf .0 → PouredAt (table .nodes) top at (v .0) (new .nodes) over → new .count ≡ table .count →
-    Holds new (a + v .0) p (rainedOn leaf v s)
-rained-holds table new a p top at over leaf v s h most c e w same =
+    Holds new k p (rainedOn leaf v s)
+rained-holds table new a p k top at over leaf v s h most c e w same =
     let t : Tree = s .tree in
     let u : Tree = poured (leaf .0) (v .0) t in
-    let k : size u ≡ size t = size-same u t (shape-kept (leaf .0) (v .0) t) in
+    let z : size u ≡ size t = size-same u t (shape-kept (leaf .0) (v .0) t) in
     let count : table .count ≡ size t = ap (λ (x : Table). x .count) (h .tree) in
     let nodes : new .nodes ≡ records u ++ replicate (1023 - size t) Unused =
     w .water [] t (replicate (1023 - size t) Unused) (whole table top t c (h .stands .sound .formed .numbered) (h .tree))
@@ -106,10 +101,10 @@ rained-holds table new a p top at over leaf v s h most c e w same =
     record {
       tree =
           ap₂ (λ (ns : List Node) (i : ℕ). record { nodes = ns; count = i })
-          (nodes ∙ ap (λ (i : ℕ). records u ++ replicate (1023 - i) Unused) (sym k)) (same ∙ count ∙ sym k);
-      accepted = ap (λ (i : ℕ). i + v .0) (h .accepted);
+          (nodes ∙ ap (λ (i : ℕ). records u ++ replicate (1023 - i) Unused) (sym z)) (same ∙ count ∙ sym z);
+      accepted = most .0 ∙ ap (λ (i : ℕ). i + v .0) (h .accepted);
       pumped = h .pumped;
-      stands = rained-stands leaf v s (h .stands) (omega (arith, h .accepted));
+      stands = rained-stands leaf v s (h .stands) (omega (arith, h .accepted, most .1));
     }
 
 -- What is seen from the top of the whole tree is the tree's.
@@ -142,25 +137,33 @@ module _ (a : Leaf) (s : State) where
       ap (λ (k : ℕ). levelAnswer (litres k)) (f ∙ ap (λ (k : ℕ). level k (s .tree)) (leaf-at a s at e))
       ∙ ap (λ (o : Option Refusal). verdict o (litres (level (a .0) (s .tree)))) (sym (leaf-yes a s at e))
 
--- What rain answers.
+-- What rain answers, where n is the rain accepted so far.
 module _ (a : Leaf) (v : Litres) (s : State) where
-  abbrev fits : Bool
-  fits = leb (s .accepted + v .0) (2 ^ 60)
+  abbrev asked : Option Refusal → Result (Unit {0}) Refusal
+  asked o = verdict o tt
 
   -- What is no leaf is refused first.
   pub rain-no-leaf : (x : Refusal) (r : Result (Unit {0}) Refusal) → Err x ≡ verdict (firstNo (levelQuestions a s)) (a .0) → r ≡ Err x →
       r ≡ verdict (firstNo (rainQuestions a v s)) tt
   rain-no-leaf x r e f =
-      f ∙ ap (λ (o : Option Refusal). verdict o tt)
-      (sym (some-stopped (levelQuestions a s) (ask fits (RainLimit v) ∷ []) x (verdict-err (firstNo (levelQuestions a s)) x (a .0) e)))
+      f ∙ ap asked
+      (sym (some-stopped (levelQuestions a s) (limitQuestion v (s .accepted) ∷ []) x (verdict-err (firstNo (levelQuestions a s)) x (a .0) e)))
 
-  module _ (at : ℕ) (e : Ok at ≡ verdict (firstNo (levelQuestions a s)) (a .0)) where
-    pub rain-past-limit : 2 ^ 60 < s .accepted + v .0 → refuses (RainLimit v) ≡ verdict (firstNo (rainQuestions a v s)) tt
-    rain-past-limit h =
-        ap (λ (o : Option Refusal). verdict o tt)
-        (sym (all-passed (levelQuestions a s) (ask fits (RainLimit v) ∷ []) (leaf-yes a s at e) ∙ stopped fits (RainLimit v) [] (lt-leb _ _ h)))
+  module _ (at n : ℕ) (e : Ok at ≡ verdict (firstNo (levelQuestions a s)) (a .0)) (same : n ≡ s .accepted) where
+    limit-asked : firstNo (rainQuestions a v s) ≡ firstNo (limitQuestion v n ∷ [])
+    limit-asked =
+        all-passed (levelQuestions a s) (limitQuestion v (s .accepted) ∷ []) (leaf-yes a s at e)
+        ∙ ap (λ (k : ℕ). firstNo (limitQuestion v k ∷ [])) (sym same)
 
-    pub rain-accepted : s .accepted + v .0 ≤ 2 ^ 60 → accepts ≡ verdict (firstNo (rainQuestions a v s)) tt
-    rain-accepted h =
-        ap (λ (o : Option Refusal). verdict o tt)
-        (sym (all-passed (levelQuestions a s) (ask fits (RainLimit v) ∷ []) (leaf-yes a s at e) ∙ passed fits (RainLimit v) [] (le-leb _ _ h)))
+    pub rain-past-limit : (x : Refusal) (r : Result (Unit {0}) Refusal) → Err x ≡ verdict (firstNo (limitQuestion v n ∷ [])) (n + v .0) → r ≡ Err x →
+        r ≡ verdict (firstNo (rainQuestions a v s)) tt
+    rain-past-limit x r f g = g ∙ ap asked (sym (limit-asked ∙ verdict-err (firstNo (limitQuestion v n ∷ [])) x (n + v .0) f))
+
+    pub rain-accepted : (k : ℕ) → Ok k ≡ verdict (firstNo (limitQuestion v n ∷ [])) (n + v .0) → accepts ≡ verdict (firstNo (rainQuestions a v s)) tt
+    rain-accepted k f = ap asked (sym (limit-asked ∙ verdict-ok (firstNo (limitQuestion v n ∷ [])) k (n + v .0) f .0))
+
+-- Rain that is within the limit is counted.
+pub rain-counted : (v : Litres) (n k : ℕ) → Ok k ≡ verdict (firstNo (limitQuestion v n ∷ [])) (n + v .0) → (k ≡ n + v .0) × (n + v .0 ≤ 2 ^ 60)
+rain-counted v n k f =
+    let p = verdict-ok (firstNo (limitQuestion v n ∷ [])) k (n + v .0) f in
+    (p .1, leb-true _ _ (all-yes (limitQuestion v n ∷ []) (p .0) .0))

@@ -20,9 +20,13 @@ use Rattle.water.specs.declared.refusal.Refusal.the-variants.{NoLeaf, RainLimi
 abbrev pub leafQuestion : Leaf → State → Question Refusal
 leafQuestion a s = ask (hasLeaf (a .0) (s .tree)) (NoLeaf a)
 
--- Rain asks: is it a leaf, and is accepted rain still at most 2^60?
+-- Is accepted rain, with v litres more, still at most 2^60?
+abbrev pub limitQuestion : Litres → ℕ → Question Refusal
+limitQuestion v accepted = ask (leb (accepted + v .0) (2 ^ 60)) (RainLimit v)
+
+-- Rain asks: is it a leaf, and is accepted rain still within its limit?
 abbrev pub rainQuestions : Leaf → Litres → State → List (Question Refusal)
-rainQuestions a v s = leafQuestion a s ∷ ask (leb (s .accepted + v .0) (2 ^ 60)) (RainLimit v) ∷ []
+rainQuestions a v s = leafQuestion a s ∷ limitQuestion v (s .accepted) ∷ []
 
 -- The level asks: is it a leaf?
 abbrev pub levelQuestions : Leaf → State → List (Question Refusal)

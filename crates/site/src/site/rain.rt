@@ -1,16 +1,29 @@
 // Rain on a site.
+ghost use Prim.Native.Nat.{_+_, _^_, _≤_};
 ghost use Rattle.questions.specs.Ask.{FirstNo, firstNo, refusalIn, verdict};
 ghost use Rattle.site.specs.Shows.{Shows};
 ghost use Rattle.std.specs.Results.{isOk};
-ghost use Rattle.water.specs.Calls.{Rained, rainQuestions, rainedOn};
+ghost use Rattle.water.specs.Calls.{Rained, limitQuestion, rainQuestions, rainedOn};
 ghost use Rattle.water.specs.State.{State};
 ghost use mathlib.Core.Bool.{false, true};
+ghost use mathlib.Core.List.{[], _∷_};
 ghost use mathlib.Core.Path.{_≡_};
 use super::Site;
 use water::Leaf;
 use water::Litres;
 use water::RAIN_LIMIT;
 use water::Refusal;
+
+// All accepted rain with some litres more, if that is within the limit.
+fn more_rain(accepted: u64, litres: Litres) -> Result<u64, Refusal>
+    requires { ⌜ accepted ≤ 2 ^ 60 ⌝ }
+    ensures { λ r. ⌜ r ≡ verdict (firstNo (limitQuestion litres accepted ∷ [])) (accepted + litres .0) ⌝ }
+{
+    if litres.0 > RAIN_LIMIT - accepted {
+        return Err(Refusal::RainLimit { litres });
+    }
+    Ok(accepted + litres.0)
+}
 
 impl Site {
     /// Lets litres fall at a leaf: what a basin has no room for spills over its saddle, and so on to the outlet. The
@@ -23,13 +36,11 @@ impl Site {
         ensures kept { λ r. ⌜ (isOk r ≡ false → now (self .exit) ≡ now (self .entry)) ⌝ }
     {
         let at = self.leaf_place(leaf)?;
-        if litres.0 > RAIN_LIMIT - self.accepted {
-            return Err(Refusal::RainLimit { litres });
-        }
+        let accepted = more_rain(self.accepted, litres)?;
         // Nothing leaves the site: its outlet takes what no other record has room for.
         let top = self.top();
         let _ = self.table.pour(top, at, litres.0);
-        self.accepted += litres.0;
+        self.accepted = accepted;
         Ok(())
     }
 }

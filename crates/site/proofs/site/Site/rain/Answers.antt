@@ -1,6 +1,5 @@
 use mathlib.Core.Path.{_≡_, refl, sym, ap, _∙_}
 use mathlib.Core.Logic.{∥∥₁-map}
-use Prim.Native.Nat.{ℕ, _+_, _≤_, _^_}
 use native.Mathlib.Omega.{arith}
 use Rattle.std.proofs.shelf.Results.{err-from-errBy}
 use Rattle.std.proofs.shelf.Tests.{false≢true}
@@ -11,7 +10,7 @@ use Rattle.water.specs.Calls.{rainQuestions, rainedOn}
 use Rattle.water.specs.State.{State}
 use Rattle.water.proofs.Calling.{rained}
 use Rattle.site.specs.Shows.{Shows}
-use Rattle.site.proofs.Raining.{leaf-at, leaf-there, rain-accepted, rain-no-leaf, rain-past-limit, rained-holds, site-rooted}
+use Rattle.site.proofs.Raining.{leaf-at, leaf-there, rain-accepted, rain-counted, rain-no-leaf, rain-past-limit, rained-holds, site-rooted}
 use Rattle.site.proofs.site.Site.rain.Needs as need
 
 pub returns-in-Break-at : need.returns-in-Break-at
@@ -29,24 +28,30 @@ returns-in-Break-at c =
       kept = λ e. refl;
     }
 
-pub returns-then-litres-self : need.returns-then-litres-self
-returns-then-litres-self c =
+pub returns-in-Break-accepted : need.returns-in-Break-accepted
+returns-in-Break-accepted c =
+    let site = c .args .self .now in
     let a = c .args .leaf in
     let v = c .args .litres in
-    let answer = λ (s : State) (h : Shows (c .args .self .now) s).
-    rain-past-limit a v s (c .in-Continue-at .at) (c .in-Continue-at .ensures tt s h) (omega (arith, c .if-litres-self .taken, h .accepted)) in
+    let p = err-from-errBy (c .from-residual-in-Break-accepted .result) (c .from-residual-in-Break-accepted .ensures .1) in
+    let is = p .1 ∙ ap Err (p .2) in
+    let answer = λ (s : State) (h : Shows site s).
+    rain-past-limit a v s (c .in-Continue-at .at) (site .accepted) (c .in-Continue-at .ensures tt s h) (h .accepted)
+    (c .in-Break-accepted .field-0 .0) (c .from-residual-in-Break-accepted .result) (c .in-Break-accepted .ensures tt) is in
     record {
       answer = answer;
       first-no = λ s h. answer-in-words (rainQuestions a v s) _ tt (answer s h);
-      water = λ s h e. absurd (false≢true e);
-      rained = λ s h e. absurd (false≢true e);
+      water = λ s h e. absurd (false≢true (sym (ap isOk is) ∙ e));
+      rained = λ s h e. absurd (false≢true (sym (ap isOk is) ∙ e));
       kept = λ e. refl;
     }
 
-pub pour-self-requires : need.pour-self-requires
-pour-self-requires c κs =
+pub pour-requires : need.pour-requires
+pour-requires c κs =
     let site = c .args .self .now in
-    let r = site-rooted site (c .top-top .result) (c .args .litres .0) (c .top-top .ensures) (omega (arith, c .if-litres-self .left, site .limit)) in
+    let v = c .args .litres in
+    let counted = rain-counted v (site .accepted) (c .in-Continue-accepted .accepted) (c .in-Continue-accepted .ensures tt) in
+    let r = site-rooted site (c .top-top .result) (v .0) (c .top-top .ensures) (counted .1) in
     record { place = r .0; rooted = r .1 }
 
 pub ghost-self : need.ghost-self
@@ -54,13 +59,14 @@ ghost-self c =
     let site = c .args .self .now in
     let a = c .args .leaf in
     let v = c .args .litres in
-    let most : site .accepted + v .0 ≤ 2 ^ 60 = omega (arith, c .if-litres-self .left, site .limit) in (
+    let at = c .in-Continue-at .at in
+    let counted = rain-counted v (site .accepted) (c .in-Continue-accepted .accepted) (c .in-Continue-accepted .ensures tt) in (
       ∥∥₁-map (site .holds) (λ h. (
         rainedOn a v (h .0),
-        rained-holds (site .table) (c .pour-self .last .self) (site .accepted) (site .pumped) (c .top-top .result) (c .in-Continue-at .at) (c .pour-self .result) a v (h .0) (h .1) most
-            (c .top-top .ensures) (leaf-at a (h .0) (c .in-Continue-at .at) (c .in-Continue-at .ensures tt (h .0) (h .1))) (c .pour-self .ensures .water) (c .pour-self .ensures .count),
+        rained-holds (site .table) (c .pour .last .self) (site .accepted) (site .pumped) (c .in-Continue-accepted .accepted) (c .top-top .result) at (c .pour .result) a v (h .0) (h .1) counted
+        (c .top-top .ensures) (leaf-at a (h .0) at (c .in-Continue-at .ensures tt (h .0) (h .1))) (c .pour .ensures .water) (c .pour .ensures .count),
       )),
-      (most, tt),
+      (omega (arith, counted .0, counted .1), tt),
     )
 
 pub returns : need.returns
@@ -69,14 +75,16 @@ returns c =
     let a = c .args .leaf in
     let v = c .args .litres in
     let at = c .in-Continue-at .at in
-    let most : site .accepted + v .0 ≤ 2 ^ 60 = omega (arith, c .if-litres-self .left, site .limit) in
-    let answer = λ (s : State) (h : Shows site s). rain-accepted a v s at (c .in-Continue-at .ensures tt s h) (omega (arith, most, h .accepted)) in
+    let k = c .in-Continue-accepted .accepted in
+    let counted = rain-counted v (site .accepted) k (c .in-Continue-accepted .ensures tt) in
+    let answer = λ (s : State) (h : Shows site s).
+    rain-accepted a v s at (site .accepted) (c .in-Continue-at .ensures tt s h) (h .accepted) k (c .in-Continue-accepted .ensures tt) in
     record {
       answer = answer;
       first-no = λ s h. answer-in-words (rainQuestions a v s) _ tt (answer s h);
       water = λ s h e.
-          rained-holds (site .table) (c .pour-self .last .self) (site .accepted) (site .pumped) (c .top-top .result) at (c .pour-self .result) a v s h most
-          (c .top-top .ensures) (leaf-at a s at (c .in-Continue-at .ensures tt s h)) (c .pour-self .ensures .water) (c .pour-self .ensures .count);
-      rained = λ s h e. rained a v s (h .stands) (leaf-there a s at (c .in-Continue-at .ensures tt s h)) (omega (arith, most, h .accepted));
+          rained-holds (site .table) (c .pour .last .self) (site .accepted) (site .pumped) k (c .top-top .result) at (c .pour .result) a v s h counted
+          (c .top-top .ensures) (leaf-at a s at (c .in-Continue-at .ensures tt s h)) (c .pour .ensures .water) (c .pour .ensures .count);
+      rained = λ s h e. rained a v s (h .stands) (leaf-there a s at (c .in-Continue-at .ensures tt s h)) (omega (arith, counted .1, h .accepted));
       kept = λ e. absurd (false≢true (sym e));
     }
