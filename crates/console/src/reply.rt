@@ -1,5 +1,5 @@
 // What a line is answered with, and the reply as a line of text.
-ghost use Rattle.console.specs.Reply.{replyBytes};
+ghost use Rattle.console.specs.Reply.{replyBytes, totalsBytes};
 ghost use Rattle.std.specs.Of.String.{string-bytes};
 ghost use Rattle.std.specs.Vec.{made};
 ghost use mathlib.Core.Path.{_≡_};
@@ -22,6 +22,16 @@ pub enum Reply {
     Totals(Totals),
 }
 
+// The line that tells the totals.
+fn totals_text(heap: Global, totals: &Totals) -> Result<String, AllocError>
+    ensures { λ r. ⌜ made r (λ s. string-bytes s ≡ totalsBytes (now (totals .entry))) ⌝ }
+{
+    let accepted = totals.accepted.0;
+    let outflow = totals.outflow.0;
+    let pumped = totals.pumped.0;
+    format!(heap, "{accepted} {outflow} {pumped}\n")
+}
+
 /// The line that tells a reply.
 pub(crate) fn reply_text(heap: Global, reply: &Reply) -> Result<String, AllocError>
     ensures { λ r. ⌜ made r (λ s. string-bytes s ≡ replyBytes (now (reply .entry))) ⌝ }
@@ -36,11 +46,6 @@ pub(crate) fn reply_text(heap: Global, reply: &Reply) -> Result<String, AllocErr
             let level = litres.0;
             format!(heap, "{level}\n")
         }
-        Reply::Totals(totals) => {
-            let accepted = totals.accepted.0;
-            let outflow = totals.outflow.0;
-            let pumped = totals.pumped.0;
-            format!(heap, "{accepted} {outflow} {pumped}\n")
-        }
+        Reply::Totals(totals) => totals_text(heap, totals),
     }
 }

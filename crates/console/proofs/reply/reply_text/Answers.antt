@@ -10,4 +10,4 @@ returns-in-Level c =
 
 pub returns-in-Totals : need.returns-in-Totals
 returns-in-Totals c =
-    made-as string-bytes (c .format-in-Totals .result) (ap replyBytes (sym (c .in-Totals .is))) (c .format-in-Totals .ensures .made)
+    made-as string-bytes (c .totals-text .result) (ap replyBytes (sym (c .in-Totals .is))) (c .totals-text .ensures)

@@ -64,7 +64,7 @@ ghost-self c =
       ∥∥₁-map (site .holds) (λ h. (
         rainedOn a v (h .0),
         rained-holds (site .table) (c .pour .last .self) (site .accepted) (site .pumped) (c .in-Continue-accepted .accepted) (c .top-top .result) at (c .pour .result) a v (h .0) (h .1) counted
-        (c .top-top .ensures) (leaf-at a (h .0) at (c .in-Continue-at .ensures tt (h .0) (h .1))) (c .pour .ensures .water) (c .pour .ensures .count),
+            (c .top-top .ensures) (leaf-at a (h .0) at (c .in-Continue-at .ensures tt (h .0) (h .1))) (c .pour .ensures .water) (c .pour .ensures .count),
       )),
       (omega (arith, counted .0, counted .1), tt),
     )
