@@ -14,3 +14,4 @@ pub mod Sides
 pub mod Sounds
 pub mod Taken
 pub mod Trees
+pub mod Whole

@@ -11,3 +11,4 @@ pub mod Levels
 pub mod Worked
 pub mod Dry
 pub mod Calling
+pub mod Answered

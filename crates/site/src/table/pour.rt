@@ -86,6 +86,7 @@ impl Table {
         ensures water { λ r. ⌜ PouredAt (now (self .entry) .nodes) root leaf litres (now (self .exit) .nodes) r ⌝ }
         ensures count { λ _. ⌜ now (self .exit) .count ≡ now (self .entry) .count ⌝ }
     {
+        // Most rain finds room in the first side, and then the other one is not gone through.
         if litres == 0 {
             return 0;
         }

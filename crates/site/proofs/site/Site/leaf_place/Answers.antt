@@ -7,7 +7,7 @@ use Rattle.questions.proofs.Asked.{passed, stopped}
 use Rattle.water.specs.Tree.{hasLeaf}
 use Rattle.water.specs.declared.refusal.Refusal.{Refusal}
 use Rattle.water.specs.declared.refusal.Refusal.the-variants.{NoLeaf}
-use Rattle.site.proofs.Raining.{leaf-said}
+use Rattle.site.proofs.Whole.{leaf-said}
 use Rattle.site.proofs.site.Site.leaf_place.Needs as need
 
 pub returns-then-not-has-leaf : need.returns-then-not-has-leaf

@@ -14,7 +14,8 @@ use Rattle.water.specs.declared.units.Litres.{Litres}
 use Rattle.water.proofs.Calling.{level-over}
 use Rattle.site.specs.Shows.{Shows}
 use Rattle.site.specs.declared.node.Survey.{Survey}
-use Rattle.site.proofs.Raining.{leaf-at, level-no-leaf, level-told, site-rooted, site-seen}
+use Rattle.water.proofs.Answered.{leaf-at, level-no-leaf, level-told}
+use Rattle.site.proofs.Whole.{site-rooted, site-seen}
 use Rattle.site.proofs.site.Site.level.Needs as need
 
 pub returns-in-Break-place : need.returns-in-Break-place

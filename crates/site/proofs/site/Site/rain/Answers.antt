@@ -10,7 +10,9 @@ use Rattle.water.specs.Calls.{rainQuestions, rainedOn}
 use Rattle.water.specs.State.{State}
 use Rattle.water.proofs.Calling.{rained}
 use Rattle.site.specs.Shows.{Shows}
-use Rattle.site.proofs.Raining.{leaf-at, leaf-there, rain-accepted, rain-counted, rain-no-leaf, rain-past-limit, rained-holds, site-rooted}
+use Rattle.water.proofs.Answered.{leaf-at, leaf-there, rain-accepted, rain-counted, rain-no-leaf, rain-past-limit}
+use Rattle.site.proofs.Raining.{rained-holds}
+use Rattle.site.proofs.Whole.{site-rooted}
 use Rattle.site.proofs.site.Site.rain.Needs as need
 
 pub returns-in-Break-at : need.returns-in-Break-at
