@@ -1,5 +1,5 @@
 // A site: the table of its records with their water, and the sums of its calls.
-ghost use Prim.Native.Nat.{_≤_};
+ghost use Prim.Native.Nat.{_^_, _≤_};
 ghost use Rattle.site.specs.Held.{Held};
 use crate::table::Table;
 
@@ -10,7 +10,7 @@ pub struct Site {
     accepted: u64,
     pumped: u64,
     ghost holds: { ∥ Held table accepted pumped ∥₁ },
-    ghost limit: { accepted ≤ 1152921504606846976 },
+    ghost limit: { accepted ≤ 2 ^ 60 },
 }
 
 // The site that there is before any file is loaded.
