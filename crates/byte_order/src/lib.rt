@@ -1,4 +1,5 @@
 // Numbers in bytes: the two byte orders, and the editions of the terrain format that build on them.
+#![tactic(auto)]
 
 // The order in which a number's bytes stand.
 mod order;

@@ -1,4 +1,5 @@
 // The console: one command a line, and one line in reply.
+#![tactic(auto)]
 
 // What a line asks for.
 mod command;

@@ -1,4 +1,5 @@
 // Rasters by their meaning: a grid of numbers, whatever it is made of.
+#![tactic(auto)]
 
 // What a raster shows, and that a lent one is one too.
 mod raster;

@@ -1,4 +1,6 @@
 // Shows what a pile of rasters means, layer by layer, as maps of numbers.
+#![tactic(auto)]
+
 use raster::{Plain, Raster, Shifted, Size, Weighted, Zone, Zones};
 use raster_text::map_text;
 

@@ -1,4 +1,5 @@
 // Rasters as text.
+#![tactic(auto)]
 
 // A map with a line for each row.
 mod map;

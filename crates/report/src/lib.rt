@@ -1,4 +1,5 @@
 // The text that tells what a terrain file holds, or why it is refused.
+#![tactic(auto)]
 
 // What there is to tell of a file.
 mod describe;

@@ -1,4 +1,5 @@
 // A site: its table of records, and loading into it.
+#![tactic(auto)]
 
 // A place of the table.
 mod node;

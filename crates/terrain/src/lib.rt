@@ -1,4 +1,5 @@
 // The terrain file format: what a file says, and why one is refused.
+#![tactic(auto)]
 
 // Why a file is refused.
 mod refusal;

@@ -1,4 +1,6 @@
 // Tells of each file that is named on the command line what it holds, or why it is refused.
+#![tactic(auto)]
+
 use report::file_text;
 use std::{env, fs};
 

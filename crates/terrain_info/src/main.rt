@@ -1,4 +1,6 @@
 // Tells what site.ter in this folder holds, or why it is refused.
+#![tactic(auto)]
+
 use report::file_text;
 use std::fs;
 

@@ -1,5 +1,6 @@
 // The theory of the merge tree and its water: each law is a function's contract. Beside it, what calls on a site's
 // water are given, answer and refuse.
+#![tactic(auto)]
 
 // What calls are given and answer in.
 mod units;

@@ -1,4 +1,6 @@
 // Loads site.ter of this folder, and answers the lines of standard input.
+#![tactic(auto)]
+
 use console::{answer, begin};
 use site::Site;
 use std::fs;

@@ -1,4 +1,6 @@
 // Plays each session that is named on the command line, NAME.in on the site of NAME.ter, and prints every answer.
+#![tactic(auto)]
+
 use console::{answer, begin};
 use site::Site;
 use std::io::{BufRead, BufReader};
