@@ -16,13 +16,13 @@ refuses x = Err x
 refused : (file read : List ℕ) (x : Refusal) → read ≡ file → refuses x ≡ verdict (first_no (questions read)) tt → first_no (questions file) ≡ Some x
 refused file read x e h = ap (λ (f : List ℕ). first_no (questions f)) (sym e) ∙ verdict_err (first_no (questions read)) x tt h
 
-pub returns-in-ok-text : goal.returns-in-ok-text
-returns-in-ok-text c =
+pub returns-in_ok-text : goal.returns-in_ok-text
+returns-in_ok-text c =
     let file = counted c.args.file.now in
     let x = c.in-Err.refusal in
     let q : first_no (questions file) ≡ Some x = refused file c.readable.result.now x c.readable.ensures c.in-Err.ensures.answer in
     record {
-      told = ap Some c.in-ok-text.ensures ∙ ap (option_map (λ (r : Refusal). reply_bytes (Refused (File r)))) (sym q);
+      told = ap Some c.in_ok-text.ensures ∙ ap (option_map (λ (r : Refusal). reply_bytes (Refused (File r)))) (sym q);
       loaded = λ e. let z : ◌≡◌ {A = ℕ} 0 1 = cc in absurd (omega arith);
       kept = λ y e. c.in-Err.ensures.kept refl;
     }

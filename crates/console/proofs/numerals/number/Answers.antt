@@ -12,11 +12,11 @@ returns-then-byte-lt48 c n w =
     let e = c.then-byte-lt48.either in
     omega (arith, d.0, d.1)
 
-pub overflow-mul-value : goal.overflow-mul-value
-overflow-mul-value c = omega (arith, fits_one_more c.loop-byte.value c.loop-byte.byte-index c.loop-byte.invariant.below (omega arith))
+pub overflow_mul-value : goal.overflow_mul-value
+overflow_mul-value c = omega (arith, fits_one_more c.loop-byte.value c.loop-byte.byte-index c.loop-byte.invariant.below (omega arith))
 
-pub overflow-add-value : goal.overflow-add-value
-overflow-add-value c = omega (arith, fits_one_more c.loop-byte.value c.loop-byte.byte-index c.loop-byte.invariant.below (omega arith))
+pub overflow_add-value : goal.overflow_add-value
+overflow_add-value c = omega (arith, fits_one_more c.loop-byte.value c.loop-byte.byte-index c.loop-byte.invariant.below (omega arith))
 
 pub loop-byte-preserved : goal.loop-byte-preserved
 loop-byte-preserved c =
@@ -26,5 +26,5 @@ loop-byte-preserved c =
 
 pub returns : goal.returns
 returns c =
-    let e = c.if-is-empty.ensures in
-    all_read _ _ _ c.loop-byte-test.false (grind (arith, nat_tests)) c.if-bytes-gt-MOST-DIGITS.false c.loop-byte.invariant
+    let e = c.if-is_empty.ensures in
+    all_read _ _ _ c.loop-byte-test.false (grind (arith, nat_tests)) c.if-bytes-gt-MOST_DIGITS.false c.loop-byte.invariant

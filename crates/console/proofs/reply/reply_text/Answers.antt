@@ -9,4 +9,4 @@ returns-in-Level c =
 
 pub returns-in-Totals : goal.returns-in-Totals
 returns-in-Totals c =
-    made_as string_bytes c.totals-text.result (ap reply_bytes (sym c.in-Totals.is)) c.totals-text.ensures
+    made_as string_bytes c.totals_text.result (ap reply_bytes (sym c.in-Totals.is)) c.totals_text.ensures

@@ -6,4 +6,4 @@ use Rattle.raster_text.proofs.map.map_text.Goals as goal
 pub loop-row-preserved : goal.loop-row-preserved
 loop-row-preserved g c =
     told_more (row_text (g.R.Raster.meaning c.args.raster.now)) c.loop-row.row
-    (string_bytes c.new-text.result) _ _ c.loop-row.invariant c.in-ok-push-row.ensures
+    (string_bytes c.new-text.result) _ _ c.loop-row.invariant c.in_ok-push_row.ensures

@@ -8,8 +8,8 @@ use Rattle.report.proofs.numbers.spaced_bytes.Goals as goal
 pub loop-byte-preserved : goal.loop-byte-preserved
 loop-byte-preserved c =
     one_more _ _ _
-    c.in-ok-push-str.ensures.bytes
-    (c.as-str.ensures.value ∙ c.in-ok-next.ensures ∙ ap (λ n. numbers (n ∷ [])) c.from.ensures)
+    c.in_ok-push_str.ensures.bytes
+    (c.as_str.ensures.value ∙ c.in_ok-next.ensures ∙ ap (λ n. numbers (n ∷ [])) c.from.ensures)
     (numbers_step c.args.bytes.now c.loop-byte.byte-index c.loop-byte-test.true)
     c.loop-byte.invariant
 

@@ -9,8 +9,8 @@ use Rattle.report.proofs.site_lines.push_nodes.Goals as goal
 pub loop-index-preserved : goal.loop-index-preserved
 loop-index-preserved c =
     one_more _ _ _
-    c.in-ok-push-str.ensures.bytes
-    (c.as-str.ensures.value ∙ c.in-ok-line.ensures)
+    c.in_ok-push_str.ensures.bytes
+    (c.as_str.ensures.value ∙ c.in_ok-line.ensures)
     (lines_step c.args.nodes.now c.loop-index.index Unused c.loop-index-test.true)
     c.loop-index.invariant
 

@@ -23,25 +23,25 @@ fill-requires g c =
           c.unused-table.ensures.nodes c.unused-table.ensures.count c.new-waiting.ensures.items c.new-waiting.ensures.room;
     }
 
-pub returns-in-err-one-tree : goal.returns-in-err-one-tree
-returns-in-err-one-tree g c =
+pub returns-in_err-one_tree : goal.returns-in_err-one_tree
+returns-in_err-one_tree g c =
     let e : Format = format g.E.Edition.digit g.E.Edition.record_len g.E.ByteOrder.number in
-    let h = c.in-ok-fill.ensures in
+    let h = c.in_ok-fill.ensures in
     let fe = ap (λ x. x.now) (h.file ∙ c.note.ensures.file) in
-    let p = err_from_is_err_and c.from-residual-in-err-one-tree.result c.from-residual-in-err-one-tree.ensures.1 in
+    let p = err_from_is_err_and c.from_residual-in_err-one_tree.result c.from_residual-in_err-one_tree.ensures.1 in
     let s = stacked c.fill.new.waiting in
     same_file e c.args.trailer.now.count c.args.reader.now.file.now c.fill.new.reader.file.now _ fe
-    (ended_err e c.args.trailer.now.count c.args.end c.fill.new.reader.file.now s c.in-err-one-tree.field-0.0 _
+    (ended_err e c.args.trailer.now.count c.args.end c.fill.new.reader.file.now s c.in_err-one_tree.field-0.0 _
     (c.requires.close ∙ ap (λ (f : List ℕ). length f - 12) (sym fe)) h.done.built.kept h.done.asked
-    (verdict_err (first_no (end_seen c.args.end s)) _ tt c.in-err-one-tree.ensures) (p.1 ∙ ap Err p.2))
+    (verdict_err (first_no (end_seen c.args.end s)) _ tt c.in_err-one_tree.ensures) (p.1 ∙ ap Err p.2))
 
 pub returns : goal.returns
 returns g c =
     let e : Format = format g.E.Edition.digit g.E.Edition.record_len g.E.ByteOrder.number in
-    let h = c.in-ok-fill.ensures in
+    let h = c.in_ok-fill.ensures in
     let fe = ap (λ x. x.now) (h.file ∙ c.note.ensures.file) in
     let s = stacked c.fill.new.waiting in
     same_file e c.args.trailer.now.count c.args.reader.now.file.now c.fill.new.reader.file.now _ fe
     (ended_ok e c.args.trailer.now.count c.args.end c.fill.new.reader.file.now s c.fill.new.table
     (c.requires.close ∙ ap (λ (f : List ℕ). length f - 12) (sym fe)) c.requires.fits.most h.done.count h.done.built h.done.listed h.done.asked
-    (verdict_ok (first_no (end_seen c.args.end s)) _ tt c.in-ok-one-tree.ensures).0)
+    (verdict_ok (first_no (end_seen c.args.end s)) _ tt c.in_ok-one_tree.ensures).0)

@@ -13,16 +13,16 @@ pub unreachable-requires : goal.unreachable-requires
 unreachable-requires g c =
     let e : Format = format g.E.Edition.digit g.E.Edition.record_len g.E.ByteOrder.number in
     let t = next_there e c.args.count c.args.i c.args.reader.now.place.at c.args.reader.now.file.now c.requires.fits c.requires.more c.requires.reached.place in
-    let h = c.in-default.ensures.answer in
+    let h = c.in_default.ensures.answer in
     let z : ◌≡◌ {A = ℕ} 0 1 = cc in
     omega arith
 
-pub returns-in-err-said : goal.returns-in-err-said
-returns-in-err-said g c =
+pub returns-in_err-said : goal.returns-in_err-said
+returns-in_err-said g c =
     let e : Format = format g.E.Edition.digit g.E.Edition.record_len g.E.ByteOrder.number in
-    let p = err_from_is_err_and c.from-residual.result c.from-residual.ensures.1 in
-    let x = refused_record e c.args.count c.args.i c.args.reader.now.place.at c.args.reader.now.file.now c.in-Some.step c.in-err-said.field-0.0
-    c.requires.fits c.requires.more c.requires.reached.place c.requires.reached.asked c.in-Some.ensures.answer c.in-err-said.was in
+    let p = err_from_is_err_and c.from_residual.result c.from_residual.ensures.1 in
+    let x = refused_record e c.args.count c.args.i c.args.reader.now.place.at c.args.reader.now.file.now c.in-Some.step c.in_err-said.field-0.0
+    c.requires.fits c.requires.more c.requires.reached.place c.requires.reached.asked c.in-Some.ensures.answer c.in_err-said.was in
     record { done = filled_err e _ _ _ _ _ _ _ _ p.1 (x ∙ ap Some (sym p.2)); file = c.in-Some.ensures.file }
 
 pub grow-requires : goal.grow-requires
@@ -40,11 +40,11 @@ returns g c =
     let e : Format = format g.E.Edition.digit g.E.Edition.record_len g.E.ByteOrder.number in
     let r = c.requires.reached in
     let h = c.in-Some.ensures in
-    let said = read_record e c.args.count c.args.i c.args.reader.now.place.at c.args.reader.now.file.now c.in-Some.step c.in-ok-said.said
-    c.requires.fits c.requires.more r.place h.answer c.in-ok-said.was in
+    let said = read_record e c.args.count c.args.i c.args.reader.now.place.at c.args.reader.now.file.now c.in-Some.step c.in_ok-said.said
+    c.requires.fits c.requires.more r.place h.answer c.in_ok-said.was in
     record {
       done =
-          taken e c.args.count c.args.i c.place-at.result c.args.reader.now.file.now c.in-ok-said.said _ c.args.table.now _ c.args.waiting.now _ c.grow.result
+          taken e c.args.count c.args.i c.place-at.result c.args.reader.now.file.now c.in_ok-said.said _ c.args.table.now _ c.args.waiting.now _ c.grow.result
           c.requires.more c.requires.fits.most (c.place-at.ensures ∙ r.place) said.1 said.0 r.count r.built r.listed r.asked
           c.grow.ensures.answer c.grow.ensures.table c.grow.ensures.waiting (c.grow.ensures.room ∙ r.room) (ap (λ x. x.now) h.file)
           (h.place ∙ place_behind e c.args.count c.args.i c.args.reader.now.place.at c.args.reader.now.file.now c.requires.fits c.requires.more r.place);

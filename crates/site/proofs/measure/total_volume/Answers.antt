@@ -7,7 +7,7 @@ use Rattle.site.proofs.measure.total_volume.Goals as goal
 pub loop-node-preserved : goal.loop-node-preserved
 loop-node-preserved c =
     let s = at_drop_more own_sum c.args.nodes.now c.loop-node.node-index Unused c.loop-node-test.true in
-    let e = c.own-volume-sum.ensures in
+    let e = c.own_volume-sum.ensures in
     let b = c.requires.1 c.loop-node.node-index in
     omega arith
 

@@ -12,10 +12,10 @@ loop-node-preserved c =
     let i = c.loop-node.node-index in
     let s = stacked c.loop-node.waiting in
     let m = at_drop_more (λ (l : List Node). heights l s) c.args.nodes.now i Unused c.loop-node-test.true in
-    let e = c.add-height.ensures.items in (
+    let e = c.add_height.ensures.items in (
       ap (heights (drop (i + 1) c.args.nodes.now)) e ∙ sym m ∙ c.loop-node.invariant.0,
       omega (arith, ap length e, heights_grow (get_or c.args.nodes.now i Unused) s),
-      c.add-height.ensures.room ∙ c.loop-node.invariant.2,
+      c.add_height.ensures.room ∙ c.loop-node.invariant.2,
     )
 
 pub returns-in-Some : goal.returns-in-Some

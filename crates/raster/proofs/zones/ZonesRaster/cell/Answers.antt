@@ -5,5 +5,5 @@ use Rattle.raster.proofs.zones.ZonesRaster.cell.Goals as goal
 
 pub returns : goal.returns
 returns c =
-    let found = is_found _ _ _ _ c.first-number.ensures in
-    record { answer = search rules; first = λ _. c.first-number.ensures }
+    let found = is_found _ _ _ _ c.first_number.ensures in
+    record { answer = search rules; first = λ _. c.first_number.ensures }

@@ -5,9 +5,9 @@ use Rattle.site.proofs.Fresh.{outlet_formed}
 use Rattle.site.proofs.Sounds.{dry_holds}
 use Rattle.site.proofs.site.Site.fresh.Goals as goal
 
-pub invariant-of-result : goal.invariant-of-result
-invariant-of-result c =
-    (∣ (untouched (outlet 0 0), dry_holds c.lone-outlet.result (outlet 0 0) c.lone-outlet.ensures outlet_formed refl) ∣₁, (omega arith, tt))
+pub invariant_of-result : goal.invariant_of-result
+invariant_of-result c =
+    (∣ (untouched (outlet 0 0), dry_holds c.lone_outlet.result (outlet 0 0) c.lone_outlet.ensures outlet_formed refl) ∣₁, (omega arith, tt))
 
 pub returns : goal.returns
-returns c = dry_holds c.lone-outlet.result (outlet 0 0) c.lone-outlet.ensures outlet_formed refl
+returns c = dry_holds c.lone_outlet.result (outlet 0 0) c.lone_outlet.ensures outlet_formed refl

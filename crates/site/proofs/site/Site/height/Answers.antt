@@ -5,10 +5,10 @@ use Rattle.site.proofs.Holding.{used_few}
 use Rattle.site.proofs.Measured.{heights_of}
 use Rattle.site.proofs.site.Site.height.Goals as goal
 
-pub tree-height-requires : goal.tree-height-requires
-tree-height-requires c = used_few c.args.self.now c.records.result.now c.records.ensures
+pub tree_height-requires : goal.tree_height-requires
+tree_height-requires c = used_few c.args.self.now c.records.result.now c.records.ensures
 
 pub returns : goal.returns
 returns c = λ s h.
-    c.tree-height.ensures ∙ ap (λ (l : List Node). newest_height (heights l [])) (c.records.ensures s h)
+    c.tree_height.ensures ∙ ap (λ (l : List Node). newest_height (heights l [])) (c.records.ensures s h)
     ∙ ap newest_height (heights_of s.tree [] h.stands.sound.formed.few)

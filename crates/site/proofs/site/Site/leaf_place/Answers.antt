@@ -7,14 +7,14 @@ use Rattle.water.specs.declared.refusal.Refusal.TheVariants.{NoLeaf}
 use Rattle.site.proofs.Whole.{leaf_said}
 use Rattle.site.proofs.site.Site.leaf_place.Goals as goal
 
-pub returns-then-not-has-leaf : goal.returns-then-not-has-leaf
-returns-then-not-has-leaf c = λ s h.
+pub returns-then-not-has_leaf : goal.returns-then-not-has_leaf
+returns-then-not-has_leaf c = λ s h.
     let a = c.args.leaf in
-    let e = leaf_said c.args.self.now s a.0 _ _ false h c.count-count.ensures c.has-leaf.ensures c.if-not-has-leaf.true in
+    let e = leaf_said c.args.self.now s a.0 _ _ false h c.count-count.ensures c.has_leaf.ensures c.if-not-has_leaf.true in
     ap (λ (o : Option Refusal). verdict o a.0) (sym (stopped (has_leaf a.0 s.tree) (NoLeaf a) [] e))
 
 pub returns : goal.returns
 returns c = λ s h.
     let a = c.args.leaf in
-    let e = leaf_said c.args.self.now s a.0 _ _ true h c.count-count.ensures c.has-leaf.ensures c.if-not-has-leaf.false in
+    let e = leaf_said c.args.self.now s a.0 _ _ true h c.count-count.ensures c.has_leaf.ensures c.if-not-has_leaf.false in
     ap (λ (o : Option Refusal). verdict o a.0) (sym (passed (has_leaf a.0 s.tree) (NoLeaf a) [] e))

@@ -13,12 +13,12 @@ use Rattle.water.proofs.Answered.{leaf_at, level_no_leaf, level_told}
 use Rattle.site.proofs.Whole.{site_rooted, site_seen}
 use Rattle.site.proofs.site.Site.level.Goals as goal
 
-pub returns-in-err-place : goal.returns-in-err-place
-returns-in-err-place c =
+pub returns-in_err-place : goal.returns-in_err-place
+returns-in_err-place c =
     let a = c.args.leaf in
-    let p = err_from_is_err_and c.from-residual.result c.from-residual.ensures.1 in
+    let p = err_from_is_err_and c.from_residual.result c.from_residual.ensures.1 in
     let is = p.1 ∙ ap Err p.2 in
-    let answer = λ (s : State) (h : Shows c.args.self.now s). level_no_leaf a s c.in-err-place.field-0.0 c.from-residual.result (c.in-err-place.ensures s h) is in
+    let answer = λ (s : State) (h : Shows c.args.self.now s). level_no_leaf a s c.in_err-place.field-0.0 c.from_residual.result (c.in_err-place.ensures s h) is in
     record {
       answer = answer;
       first_no_lem = λ s h. answer_in_words (level_questions a s) _ (litres (level a.0 s.tree)) (answer s h);
@@ -35,14 +35,14 @@ pub returns : goal.returns
 returns c =
     let site = c.args.self.now in
     let a = c.args.leaf in
-    let at = c.in-ok-place.place in
+    let at = c.in_ok-place.place in
     let seen = λ (s : State) (h : Shows site s).
     ap (λ (x : Survey). x.level) (site_seen site c.top.result at c.survey-seen.result s h c.top.ensures c.survey-seen.ensures) in
-    let answer = λ (s : State) (h : Shows site s). level_told a s at (litres c.survey-seen.result.level) (c.in-ok-place.ensures s h) (seen s h) in
+    let answer = λ (s : State) (h : Shows site s). level_told a s at (litres c.survey-seen.result.level) (c.in_ok-place.ensures s h) (seen s h) in
     record {
       answer = answer;
       first_no_lem = λ s h. answer_in_words (level_questions a s) _ (litres (level a.0 s.tree)) (answer s h);
       pool = λ s h.
           subst (LevelIs a.0 s.tree)
-          (sym (seen s h ∙ ap (λ (k : ℕ). level k s.tree) (leaf_at a s at (c.in-ok-place.ensures s h)))) (level_over_lem a.0 s h.stands);
+          (sym (seen s h ∙ ap (λ (k : ℕ). level k s.tree) (leaf_at a s at (c.in_ok-place.ensures s h)))) (level_over_lem a.0 s h.stands);
     }

@@ -10,12 +10,12 @@ use Rattle.site.proofs.Measured.{outflow_is_lem}
 use Rattle.site.proofs.OneTree.{one_state}
 use Rattle.site.proofs.site.Site.totals.Goals as goal
 
-pub total-outflow-requires : goal.total-outflow-requires
-total-outflow-requires c = used_drained c.args.self.now c.records.result.now c.records.ensures
+pub total_outflow-requires : goal.total_outflow-requires
+total_outflow-requires c = used_drained c.args.self.now c.records.result.now c.records.ensures
 
 pub returns : goal.returns
 returns c =
-    let out = λ (s : State) (h : Shows c.args.self.now s). c.total-outflow.ensures ∙ ap drained_sum (c.records.ensures s h) ∙ outflow_is_lem s.tree in
+    let out = λ (s : State) (h : Shows c.args.self.now s). c.total_outflow.ensures ∙ ap drained_sum (c.records.ensures s h) ∙ outflow_is_lem s.tree in
     let site = c.args.self.now in
     record {
       state = record { some = site.holds; only = λ s u h k. one_state site.table site.accepted site.pumped s u h k };

@@ -4,11 +4,11 @@ use Rattle.site.proofs.Holding.{used_few, used_small}
 use Rattle.site.proofs.Measured.{volume_is}
 use Rattle.site.proofs.site.Site.volume.Goals as goal
 
-pub total-volume-requires : goal.total-volume-requires
-total-volume-requires c = (
+pub total_volume-requires : goal.total_volume-requires
+total_volume-requires c = (
   used_few c.args.self.now c.records.result.now c.records.ensures,
   used_small c.args.self.now c.records.result.now c.records.ensures,
 )
 
 pub returns : goal.returns
-returns c = λ s h. c.total-volume.ensures ∙ ap own_sum (c.records.ensures s h) ∙ volume_is s.tree
+returns c = λ s h. c.total_volume.ensures ∙ ap own_sum (c.records.ensures s h) ∙ volume_is s.tree

@@ -11,34 +11,34 @@ use Rattle.site.proofs.Loads.{only_tree, table_read, table_refused}
 use Rattle.site.proofs.Sounds.{dry_holds}
 use Rattle.site.proofs.site.load.read_site.Goals as goal
 
-pub invariant-of-result : goal.invariant-of-result
-invariant-of-result c =
-    let h = c.in-ok-table.ensures in
-    let p = table_read c.args.file.now c.in-ok-table.table h in
+pub invariant_of-result : goal.invariant_of-result
+invariant_of-result c =
+    let h = c.in_ok-table.ensures in
+    let p = table_read c.args.file.now c.in_ok-table.table h in
     let t = tree_in c.args.file.now in
-    (∣ (untouched t, dry_holds c.in-ok-table.table t p.1 (h.formed refl) (h.dry refl)) ∣₁, (omega arith, tt))
+    (∣ (untouched t, dry_holds c.in_ok-table.table t p.1 (h.formed refl) (h.dry refl)) ∣₁, (omega arith, tt))
 
 pub returns : goal.returns
 returns c =
     let file = c.args.file.now in
-    let h = c.in-ok-table.ensures in
-    let p = table_read file c.in-ok-table.table h in
+    let h = c.in_ok-table.ensures in
+    let p = table_read file c.in_ok-table.table h in
     let a : accepts ≡ verdict (first_no (questions file)) tt = ap (λ (o : Option Refusal). verdict o tt) (sym p.0) in (
       a,
       answer_in_words (questions file) accepts tt a,
       record {
-        shows = dry_holds c.in-ok-table.table (tree_in file) p.1 (h.formed refl) (h.dry refl);
+        shows = dry_holds c.in_ok-table.table (tree_in file) p.1 (h.formed refl) (h.dry refl);
         dry = h.dry refl;
         spelled = h.spelled refl;
         only = only_tree file (h.formed refl) (h.dry refl) (h.spelled refl);
       },
     )
 
-pub returns-in-err-table : goal.returns-in-err-table
-returns-in-err-table c =
+pub returns-in_err-table : goal.returns-in_err-table
+returns-in_err-table c =
     let file = c.args.file.now in
-    let x = c.in-err-table.field-0.0 in
-    let p = err_from_is_err_and c.from-residual.result c.from-residual.ensures.1 in
-    let q = table_refused file x c.in-err-table.ensures in
+    let x = c.in_err-table.field-0.0 in
+    let p = err_from_is_err_and c.from_residual.result c.from_residual.ensures.1 in
+    let q = table_refused file x c.in_err-table.ensures in
     let a : refuses x ≡ verdict (first_no (questions file)) tt = ap (λ (o : Option Refusal). verdict o tt) (sym q) in
     subst (SiteRead file) (sym (p.1 ∙ ap Err p.2)) (a, answer_in_words (questions file) (refuses x) tt a)

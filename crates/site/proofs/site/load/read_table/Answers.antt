@@ -10,36 +10,36 @@ use Rattle.site.proofs.site.load.read_table.Goals as goal
 pub build-requires : goal.build-requires
 build-requires c =
     let b : length c.args.file.now < 2 ^ 64 = omega arith in
-    let t = c.in-ok-trailer.ensures in
-    let h = handed First c.args.file.now c.in-ok-trailer.trailer c.new-reader.result c.trailer.new.self b c.new-reader.ensures.file c.new-reader.ensures.place t.unmoved t.answer c.in-First.is in
+    let t = c.in_ok-trailer.ensures in
+    let h = handed First c.args.file.now c.in_ok-trailer.trailer c.new-reader.result c.trailer.new.self b c.new-reader.ensures.file c.new-reader.ensures.place t.unmoved t.answer c.in-First.is in
     record { fits = h.fits; note = h.note; start = h.start; close = h.close }
 
 pub build-requires-in-Second : goal.build-requires-in-Second
 build-requires-in-Second c =
     let b : length c.args.file.now < 2 ^ 64 = omega arith in
-    let t = c.in-ok-trailer.ensures in
-    let h = handed Second c.args.file.now c.in-ok-trailer.trailer c.new-reader.result c.trailer.new.self b c.new-reader.ensures.file c.new-reader.ensures.place t.unmoved t.answer c.in-Second.is in
+    let t = c.in_ok-trailer.ensures in
+    let h = handed Second c.args.file.now c.in_ok-trailer.trailer c.new-reader.result c.trailer.new.self b c.new-reader.ensures.file c.new-reader.ensures.place t.unmoved t.answer c.in-Second.is in
     record { fits = h.fits; note = h.note; start = h.start; close = h.close }
 
-pub returns-in-err-trailer : goal.returns-in-err-trailer
-returns-in-err-trailer c =
+pub returns-in_err-trailer : goal.returns-in_err-trailer
+returns-in_err-trailer c =
     let new = c.new-reader.result.file.now in
-    let x = c.in-err-trailer.field-0.0 in
-    let p = err_from_is_err_and c.from-residual.result c.from-residual.ensures.1 in
-    let q = verdict_err (first_no (trailer_questions (length new) (tail_of new))) x (trailer_of (length new) (tail_of new)) c.in-err-trailer.ensures.answer in
-    trailer_refused c.args.file.now c.from-residual.result x (p.1 ∙ ap Err p.2)
+    let x = c.in_err-trailer.field-0.0 in
+    let p = err_from_is_err_and c.from_residual.result c.from_residual.ensures.1 in
+    let q = verdict_err (first_no (trailer_questions (length new) (tail_of new))) x (trailer_of (length new) (tail_of new)) c.in_err-trailer.ensures.answer in
+    trailer_refused c.args.file.now c.from_residual.result x (p.1 ∙ ap Err p.2)
     (ap (λ (f : List ℕ). first_no (trailer_questions (length f) (tail_of f))) (sym c.new-reader.ensures.file) ∙ q)
 
 pub returns-in-First : goal.returns-in-First
 returns-in-First c =
     let b : length c.args.file.now < 2 ^ 64 = omega arith in
-    let t = c.in-ok-trailer.ensures in
-    (handed First c.args.file.now c.in-ok-trailer.trailer c.new-reader.result c.trailer.new.self b c.new-reader.ensures.file c.new-reader.ensures.place t.unmoved t.answer c.in-First.is
+    let t = c.in_ok-trailer.ensures in
+    (handed First c.args.file.now c.in_ok-trailer.trailer c.new-reader.result c.trailer.new.self b c.new-reader.ensures.file c.new-reader.ensures.place t.unmoved t.answer c.in-First.is
     ).whole c.build.result c.build.ensures
 
 pub returns-in-Second : goal.returns-in-Second
 returns-in-Second c =
     let b : length c.args.file.now < 2 ^ 64 = omega arith in
-    let t = c.in-ok-trailer.ensures in
-    (handed Second c.args.file.now c.in-ok-trailer.trailer c.new-reader.result c.trailer.new.self b c.new-reader.ensures.file c.new-reader.ensures.place t.unmoved t.answer c.in-Second.is
+    let t = c.in_ok-trailer.ensures in
+    (handed Second c.args.file.now c.in_ok-trailer.trailer c.new-reader.result c.trailer.new.self b c.new-reader.ensures.file c.new-reader.ensures.place t.unmoved t.answer c.in-Second.is
     ).whole c.build-in-Second.result c.build-in-Second.ensures

@@ -18,24 +18,24 @@ returns-then-litres-eq0 t c =
       count = refl;
     }
 
-pub fill-record-requires : goal.fill-record-requires
-fill-record-requires t c =
-    let one = alone c.args.self.now.nodes c.args.root c.args.leaf c.args.litres c.in-default.not-Merge in
+pub fill_record-requires : goal.fill_record-requires
+fill_record-requires t c =
+    let one = alone c.args.self.now.nodes c.args.root c.args.leaf c.args.litres c.in_default.not-Merge in
     (c.requires.place, ∥∥₁_elim c.requires.rooted le_prop (λ h. omega (arith, (one h.0 h.1 h.2 h.3).drains, h.4)))
 
-pub returns-in-default : goal.returns-in-default
-returns-in-default t c =
-    let one = alone c.args.self.now.nodes c.args.root c.args.leaf c.args.litres c.in-default.not-Merge in
+pub returns-in_default : goal.returns-in_default
+returns-in_default t c =
+    let one = alone c.args.self.now.nodes c.args.root c.args.leaf c.args.litres c.in_default.not-Merge in
     record {
       water = record {
-        water = λ before tree after s. c.fill-record.ensures.water ∙ (one before tree after s).water;
-        rest = λ before tree after s. c.fill-record.ensures.rest ∙ (one before tree after s).rest;
+        water = λ before tree after s. c.fill_record.ensures.water ∙ (one before tree after s).water;
+        rest = λ before tree after s. c.fill_record.ensures.rest ∙ (one before tree after s).rest;
       };
-      count = c.fill-record.ensures.count;
+      count = c.fill_record.ensures.count;
     }
 
-pub sides-from-sides-requires : goal.sides-from-sides-requires
-sides-from-sides-requires t c =
+pub sides_from-sides-requires : goal.sides_from-sides-requires
+sides_from-sides-requires t c =
     let m = c.in-Merge in
     let past = merge_past c.args.self.now.nodes c.args.root m.own m.water m.cut m.left m.right m.is c.args.litres c.requires.rooted in
     (past.0, omega (arith, past.0, past.1))
@@ -43,43 +43,43 @@ sides-from-sides-requires t c =
 pub pour-spilled-requires : goal.pour-spilled-requires
 pour-spilled-requires t c =
     let m = c.in-Merge in
-    let d = c.sides-from-sides.result in
+    let d = c.sides_from-sides.result in
     let one =
     first_rooted c.args.self.now.nodes c.args.root m.own m.water m.cut m.left m.right m.is
-    c.args.leaf c.args.litres d.first d.second d.landing c.sides-from-sides.ensures c.requires.rooted in
+    c.args.leaf c.args.litres d.first d.second d.landing c.sides_from-sides.ensures c.requires.rooted in
     (omega (arith, c.decreases, one.0), (omega (arith, c.requires.place, one.0), one.1))
 
 pub pour-rest-requires : goal.pour-rest-requires
 pour-rest-requires t c =
     let m = c.in-Merge in
-    let d = c.sides-from-sides.result in
+    let d = c.sides_from-sides.result in
     let two =
     second_rooted c.args.self.now.nodes c.args.root m.own m.water m.cut m.left m.right m.is
-    c.args.leaf c.args.litres d.first d.second d.landing c.sides-from-sides.ensures
+    c.args.leaf c.args.litres d.first d.second d.landing c.sides_from-sides.ensures
     c.pour-spilled.new.self.nodes c.pour-spilled.result c.pour-spilled.ensures.water c.requires.rooted in
     (omega (arith, c.decreases, two.0), (omega (arith, c.requires.place, two.0), two.1))
 
-pub fill-record-requires-2 : goal.fill-record-requires-2
-fill-record-requires-2 t c =
+pub fill_record-requires-2 : goal.fill_record-requires-2
+fill_record-requires-2 t c =
     let m = c.in-Merge in
-    let d = c.sides-from-sides.result in
+    let d = c.sides_from-sides.result in
     let dry =
     top_dry c.args.self.now.nodes c.args.root m.own m.water m.cut m.left m.right m.is
-    c.args.leaf c.args.litres d.first d.second d.landing c.sides-from-sides.ensures
+    c.args.leaf c.args.litres d.first d.second d.landing c.sides_from-sides.ensures
     c.pour-spilled.new.self.nodes c.pour-spilled.result c.pour-spilled.ensures.water
     c.pour-rest.new.self.nodes c.pour-rest.result c.pour-rest.ensures.water c.requires.rooted in
-    (c.requires.place, omega (arith, dry, c.pour-rest.type-inv))
+    (c.requires.place, omega (arith, dry, c.pour-rest.type_inv))
 
 pub returns : goal.returns
 returns t c =
     let m = c.in-Merge in
-    let d = c.sides-from-sides.result in
+    let d = c.sides_from-sides.result in
     record {
       water =
           pours_merge c.args.self.now.nodes c.args.root m.own m.water m.cut m.left m.right m.is
-          c.args.leaf c.args.litres d.first d.second d.landing c.sides-from-sides.ensures
+          c.args.leaf c.args.litres d.first d.second d.landing c.sides_from-sides.ensures
           c.pour-spilled.new.self.nodes c.pour-spilled.result c.pour-spilled.ensures.water
           c.pour-rest.new.self.nodes c.pour-rest.result c.pour-rest.ensures.water
-          c.fill-record-2.new.self.nodes c.fill-record-2.result c.fill-record-2.ensures.water c.fill-record-2.ensures.rest;
-      count = c.fill-record-2.ensures.count ∙ c.pour-rest.ensures.count ∙ c.pour-spilled.ensures.count;
+          c.fill_record-2.new.self.nodes c.fill_record-2.result c.fill_record-2.ensures.water c.fill_record-2.ensures.rest;
+      count = c.fill_record-2.ensures.count ∙ c.pour-rest.ensures.count ∙ c.pour-spilled.ensures.count;
     }

@@ -17,8 +17,8 @@ returns-in-Outlet t c =
     let b = c.in-Outlet in
     seen_at c.args.self.now.nodes c.args.root c.args.leaf (Outlet b.water) _ b.is (outlet_seen b.water c.args.leaf)
 
-pub overflow-sub-cut : goal.overflow-sub-cut
-overflow-sub-cut t c =
+pub overflow_sub-cut : goal.overflow_sub-cut
+overflow_sub-cut t c =
     let m = c.in-Merge in
     (merge_past c.args.self.now.nodes c.args.root m.own m.water m.cut m.left m.right m.is 0 c.requires.rooted).0
 
@@ -28,8 +28,8 @@ survey-left-requires t c =
     let l = left_rooted c.args.self.now.nodes c.args.root m.own m.water m.cut m.left m.right m.is c.requires.rooted in
     (omega (arith, c.decreases, l.0), (omega (arith, c.requires.place, l.0), l.1))
 
-pub overflow-sub-root : goal.overflow-sub-root
-overflow-sub-root t c =
+pub overflow_sub-root : goal.overflow_sub-root
+overflow_sub-root t c =
     let m = c.in-Merge in
     let past = merge_past c.args.self.now.nodes c.args.root m.own m.water m.cut m.left m.right m.is 0 c.requires.rooted in
     omega (arith, past.0, past.1)
