@@ -1,6 +1,6 @@
 -- The topmost pool over a leaf, and the level.
 use Rattle.std.proofs.Common.{◌≡◌, ℕ, ◌+◌, ◌<◌, ◌≤◌, true, false, cond, ◌&&◌, eqb, ltb, sym, refl, ap, ◌∙◌, inl, inr, ⊎_elim, arith}
-use Rattle.std.proofs.lemmas.Bool.{or_left, or_right, or_cases, and_left, and_right, cond-true, cond-false, cases__bool, lt-ltb, le-ltb, both_ways, false≢true}
+use Rattle.std.proofs.lemmas.Bool.{or_left, or_right, or_cases, and_left, and_right, cond-true, cond-false, cases_Bool, lt-ltb, le-ltb, both_ways, false≢true}
 use Rattle.water.specs.Tree.{Tree, basin, outlet, merge, size, has_leaf, full}
 use Rattle.water.specs.Formed.{Numbered}
 use Rattle.water.specs.Water.{held}
@@ -113,7 +113,7 @@ pool a b (merge n o w c x y l r) h e =
     (λ i. let d = left_leaf a b n o w c x y l r h (basin_leaf a l i) in left_pool a n o w c x y l r f d.0 d.1 (hl i))
     (λ i. let d = right_leaf a b n o w c x y l r h (basin_leaf a r i) in right_pool a n o w c x y l r f d.0 d.1 (hr i))
     (or_cases (has_basin a l) (has_basin a r) e))
-    (cases__bool (full l && full r))
+    (cases_Bool (full l && full r))
 
 pub level_is_lem : (a b : ℕ) (t : Tree) → Numbered b t → has_basin a t ≡ true
     → (s : Tree) × Pool a t s × (level a t ≡ held s) × ((p : Tree) → Pool a t p → p ≡ s)

@@ -1,6 +1,6 @@
 -- What leaves a tree, by its room and its outlets.
 use Rattle.std.proofs.Common.{◌≡◌, ℕ, ◌+◌, ◌-◌, true, false, ◌||◌, ◌⊎◌, refl, ap, ◌∙◌, inl, inr, ⊎_elim, arith}
-use Rattle.std.proofs.lemmas.Bool.{cases_lt, or_parts, or_cases, false≢true, true≢false, cases__bool, cond-true, cond-false}
+use Rattle.std.proofs.lemmas.Bool.{cases_lt, or_parts, or_cases, false≢true, true≢false, cases_Bool, cond-true, cond-false}
 use Rattle.water.specs.Tree.{Tree, basin, outlet, merge, is_open, volume, outlets}
 use Rattle.water.specs.Formed.{Shaped, Formed}
 use Rattle.water.specs.Sound.{Within, Sound}
@@ -75,7 +75,7 @@ held_split (merge n o w c x y l r) s h =
     (λ (i : (is_open l || is_open r) ≡ false).
     let k = cond-false (is_open l || is_open r) 0 w i in
     omega arith)
-    (cases__bool (is_open l || is_open r))
+    (cases_Bool (is_open l || is_open r))
 
 -- A tree with an outlet is open.
 pub outlet_opens : (t : Tree) → is_open t ≡ false → outlets t ≡ 0
@@ -90,7 +90,7 @@ outlet_opens (merge n o w c x y l r) h =
 pub formed_open : (t : Tree) → Formed t → is_open t ≡ true
 formed_open t h = ⊎_elim (λ (p : is_open t ≡ true). p)
     (λ (p : is_open t ≡ false). let k = outlet_opens t p in let j = h.outlet in absurd (omega arith))
-    (cases__bool (is_open t))
+    (cases_Bool (is_open t))
 
 pub site_balance : (a v : ℕ) (t : Tree) → Sound t
     → closed_water (poured a v t) + outflow (poured a v t) ≡ closed_water t + outflow t + v

@@ -1,6 +1,6 @@
 -- Rains are poured number by number, each its sum: so only the sums count.
 use Rattle.std.proofs.Common.{◌≡◌, ℕ, zero, suc, ◌+◌, ◌<◌, ◌≤◌, true, false, cond, eqb, List, [], ◌∷◌, sym, refl, ap, ◌∙◌, ap₂, ⊎_elim, arith}
-use Rattle.std.proofs.lemmas.Bool.{cases_eq, cases__bool, cond-true, cond-false, eq-eqb, ne_eqb, both_ways}
+use Rattle.std.proofs.lemmas.Bool.{cases_eq, cases_Bool, cond-true, cond-false, eq-eqb, ne_eqb, both_ways}
 use Rattle.water.specs.Tree.{Tree, has_leaf}
 use Rattle.water.specs.Pour.{poured}
 use Rattle.water.specs.Rains.{rained, sum_on, OnLeaves}
@@ -106,4 +106,4 @@ pub equal_rain_on_leaves : (ps qs : List (ℕ × ℕ)) (t : Tree) → OnLeaves t
 equal_rain_on_leaves ps qs t hp hq h = equal_rain ps qs t (λ k. ⊎_elim
     (λ (e : has_leaf k t ≡ true). h k e)
     (λ (e : has_leaf k t ≡ false). none_there k t ps hp e ∙ sym (none_there k t qs hq e))
-    (cases__bool (has_leaf k t)))
+    (cases_Bool (has_leaf k t)))

@@ -1,6 +1,6 @@
 -- The litre's walk ends in one record, and that is where pouring one litre leaves it.
 use Rattle.std.proofs.Common.{◌≡◌, ℕ, zero, suc, ◌+◌, ◌-◌, ◌<◌, ◌≤◌, true, false, cond, ◌&&◌, eqb, ◌⊎◌, sym, refl, ap, ◌∙◌, subst, inl, inr, ⊎_elim, arith}
-use Rattle.std.proofs.lemmas.Bool.{or_cases, eqb-true, eqb-false, eq-eqb, ne_eqb, cond-true, cond-false, cases__bool, cases_eq, both_ways, and_right}
+use Rattle.std.proofs.lemmas.Bool.{or_cases, eqb-true, eqb-false, eq-eqb, ne_eqb, cond-true, cond-false, cases_Bool, cases_eq, both_ways, and_right}
 use Rattle.water.specs.Tree.{Tree, basin, outlet, merge, first, has_leaf, full}
 use Rattle.water.specs.Formed.{Numbered, Shaped}
 use Rattle.water.specs.Sound.{Within, Sound}
@@ -103,7 +103,7 @@ module _ (t : Tree) (n o w j : ℕ) (s z : Tree) (mk : ℕ → Tree → Tree →
   in_second_lem p k q =
       let fz : full z ≡ false = ⊎_elim
       (λ (e : full z ≡ true). let u = (full_passes j 1 z e).1 in let v = q.out in absurd (omega arith))
-      (λ (e : full z ≡ false). e) (cases__bool (full z)) in
+      (λ (e : full z ≡ false). e) (cases_Bool (full z)) in
       let ps = full_passes a 1 s p.brim in
       let p0 = ps.0 in
       let p1 = ps.1 in
@@ -234,7 +234,7 @@ basin_way t n o w a p g e = ⊎_elim
         tree = poured_basin a 1 n o w ∙ ap (λ (i : ℕ). basin n o i) (wf ∙ sym cw);
       },
     ))
-    (cases__bool (eqb w o))
+    (cases_Bool (eqb w o))
   where
     fill1 : (w ≡ o → ⊥) → filled o w 1 ≡ w + 1
     fill1 ne = omega arith
