@@ -18,9 +18,9 @@ fn merge(
     said: &Record,
     at: usize,
 ) -> Result<(), Refusal>
-    requires kind_value { said.now.kind ≡ Merge }
-    requires count_bound { table.old.count < 1023 }
-    requires at_bound { at + 8 < 2 ^ 64 }
+    requires is_merge { said.now.kind ≡ Merge }
+    requires room { table.old.count < 1023 }
+    requires place_fits { at + 8 < 2 ^ 64 }
     ensures { Grew table.old table.new waiting.old waiting.new said.now at result }
 {
     let found = waiting.len();
@@ -84,9 +84,9 @@ pub(crate) fn grow(
     said: &Record,
     at: usize,
 ) -> Result<(), Refusal>
-    requires count_bound { table.old.count < 1023 }
-    requires waiting_len_bound { length (stacked waiting.old) < capacity waiting.old }
-    requires at_bound { at + 8 < 2 ^ 64 }
+    requires room { table.old.count < 1023 }
+    requires room_to_wait { length (stacked waiting.old) < capacity waiting.old }
+    requires place_fits { at + 8 < 2 ^ 64 }
     ensures { Grew table.old table.new waiting.old waiting.new said.now at result }
 {
     let first = table.count() as u16;

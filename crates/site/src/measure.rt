@@ -21,8 +21,8 @@ fn own_volume(node: &Node) -> u64
 
 /// The sum of the own volumes.
 pub(crate) fn total_volume(nodes: &[Node]) -> u64
-    requires nodes_len_bound { length nodes.now ≤ 1023 }
-    requires by_index { (k : ℕ) → own_in (slice_index_or nodes.now k Unused) < 2 ^ 40 }
+    requires few { length nodes.now ≤ 1023 }
+    requires volumes_fit { (k : ℕ) → own_in (slice_index_or nodes.now k Unused) < 2 ^ 40 }
     ensures { result ≡ own_sum nodes.now }
 {
     let mut sum = 0;

@@ -52,8 +52,8 @@ fn volume_fits(kind: Kind, own: u64) -> bool
 impl Record {
     // The record that the bytes from `at` on say, or the first of their questions answered no.
     pub(crate) fn read<E: Edition>(bytes: &[u8], at: usize) -> Result<Record, Refusal>
-        requires bytes_len { length bytes.now ≡ E.Edition.record_len }
-        requires at_bound { at + 8 < 2 ^ 64 }
+        requires whole { length bytes.now ≡ E.Edition.record_len }
+        requires place_fits { at + 8 < 2 ^ 64 }
         ensures { result ≡ verdict (first_no (record_questions (format E.Edition.digit E.Edition.record_len E.ByteOrder.number) bytes.now at)) (record_of (format E.Edition.digit E.Edition.record_len E.ByteOrder.number) bytes.now) }
     {
         let [kind_byte, one, l0, l1, r0, r1, six, seven, rest @ ..] = bytes else {

@@ -53,8 +53,8 @@ fn edition_of(tail: &[u8]) -> Option<EditionName>
 
 // Questions 4 to 6, by one text for every edition.
 fn numbers<E: Edition>(edition: EditionName, tail: &[u8], total: usize) -> Result<Trailer, Refusal>
-    requires tail_len { length tail.now ≡ 12 }
-    requires tail_fits { 12 ≤ total }
+    requires whole { length tail.now ≡ 12 }
+    requires within { 12 ≤ total }
     ensures { result ≡ verdict (first_no (count_questions (format E.Edition.digit E.Edition.record_len E.ByteOrder.number) total tail.now)) (trailer_as edition (format E.Edition.digit E.Edition.record_len E.ByteOrder.number) total tail.now) }
 {
     let [d0, d1, d2, d3, c0, c1, ..] = tail else {
@@ -89,8 +89,8 @@ fn numbers<E: Edition>(edition: EditionName, tail: &[u8], total: usize) -> Resul
 impl Trailer {
     // The trailer that the last 12 of `total` bytes say, or the first of its questions answered no.
     pub(crate) fn read(tail: &[u8], total: usize) -> Result<Trailer, Refusal>
-        requires tail_len { length tail.now ≡ 12 }
-        requires tail_fits { 12 ≤ total }
+        requires whole { length tail.now ≡ 12 }
+        requires within { 12 ≤ total }
         ensures { result ≡ verdict (first_no (trailer_questions total tail.now)) (trailer_of total tail.now) }
     {
         let [.., six, seven, f, t, digit, lf] = tail else {

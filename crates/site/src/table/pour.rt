@@ -44,8 +44,8 @@ struct Sides {
 
 // The side that has the leaf comes first; what it lets out goes to the merge's landing in the other.
 fn sides_from(leaf: usize, root: usize, cut: u16, left: u16, right: u16) -> Sides
-    requires cut_nonzero { 0 < cut }
-    requires root_nonzero { 0 < root }
+    requires has_left { 0 < cut }
+    requires has_right { 0 < root }
     ensures { SidesFrom leaf root cut left right result.first result.second result.landing }
 {
     let below_left = cut as usize - 1;
@@ -68,8 +68,8 @@ fn sides_from(leaf: usize, root: usize, cut: u16, left: u16, right: u16) -> Side
 impl Table {
     // Lends one record to the function that changes its water.
     fn fill_record(&mut self, i: usize, litres: u64) -> u64
-        requires i_bound { i < 1023 }
-        requires litres_bound { drained (slice_index_or self.old.nodes i Unused) + litres < 2 ^ 64 }
+        requires inside { i < 1023 }
+        requires litres_fit { drained (slice_index_or self.old.nodes i Unused) + litres < 2 ^ 64 }
         ensures water { self.new.nodes ≡ slice_set self.old.nodes i (filled_node litres (slice_index_or self.old.nodes i Unused)) }
         ensures count { self.new.count ≡ self.old.count }
         ensures rest { result ≡ over_node litres (slice_index_or self.old.nodes i Unused) }

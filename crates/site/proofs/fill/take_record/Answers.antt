@@ -33,7 +33,7 @@ grow-requires g c =
     omega (arith, ap length r.built.kept, length-map (waiting e c.args.reader.now.file.now c.args.i) summary_of, few_wait _ _ r.built.lined, r.count) in
     let m = g.met.E.Edition.least in
     let t = there e c.args.count c.args.i c.args.reader.now.file.now c.requires.fits c.requires.more in
-    (omega (arith, r.count), omega (arith, r.room), omega (arith, c.place-at.ensures, r.place))
+    record { room = omega (arith, r.count); room_to_wait = omega (arith, r.room); place_fits = omega (arith, c.place-at.ensures, r.place) }
 
 pub returns : goal.returns
 returns g c =

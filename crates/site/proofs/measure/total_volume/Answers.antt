@@ -8,7 +8,7 @@ pub loop-node-preserved : goal.loop-node-preserved
 loop-node-preserved c =
     let s = at_drop_more own_sum c.args.nodes.now c.loop-node.node-index Unused c.loop-node-test.true in
     let e = c.own_volume-sum.ensures in
-    let b = c.requires.1 c.loop-node.node-index in
+    let b = c.requires.volumes_fit c.loop-node.node-index in
     omega arith
 
 pub returns : goal.returns

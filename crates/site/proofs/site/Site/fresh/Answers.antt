@@ -7,7 +7,10 @@ use Rattle.site.proofs.site.Site.fresh.Goals as goal
 
 pub invariant_of-result : goal.invariant_of-result
 invariant_of-result c =
-    (∣ (untouched (outlet 0 0), dry_holds c.lone_outlet.result (outlet 0 0) c.lone_outlet.ensures outlet_formed refl) ∣₁, (omega arith, tt))
+    record {
+      holds = ∣ (untouched (outlet 0 0), dry_holds c.lone_outlet.result (outlet 0 0) c.lone_outlet.ensures outlet_formed refl) ∣₁;
+      limit = omega arith;
+    }
 
 pub returns : goal.returns
 returns c = dry_holds c.lone_outlet.result (outlet 0 0) c.lone_outlet.ensures outlet_formed refl

@@ -21,7 +21,7 @@ returns-in_err-place c =
     let answer = λ (s : State) (h : Shows c.args.self.now s). level_no_leaf a s c.in_err-place.field-0.0 c.from_residual.result (c.in_err-place.ensures s h) is in
     record {
       answer = answer;
-      first_no_lem = λ s h. answer_in_words (level_questions a s) _ (litres (level a.0 s.tree)) (answer s h);
+      first_no = λ s h. answer_in_words (level_questions a s) _ (litres (level a.0 s.tree)) (answer s h);
       pool = λ s h. subst (λ (r : Result Litres Refusal). IfOk r (λ v. LevelIs a.0 s.tree v.0)) (sym is) tt;
     }
 
@@ -41,7 +41,7 @@ returns c =
     let answer = λ (s : State) (h : Shows site s). level_told a s at (litres c.survey-seen.result.level) (c.in_ok-place.ensures s h) (seen s h) in
     record {
       answer = answer;
-      first_no_lem = λ s h. answer_in_words (level_questions a s) _ (litres (level a.0 s.tree)) (answer s h);
+      first_no = λ s h. answer_in_words (level_questions a s) _ (litres (level a.0 s.tree)) (answer s h);
       pool = λ s h.
           subst (LevelIs a.0 s.tree)
           (sym (seen s h ∙ ap (λ (k : ℕ). level k s.tree) (leaf_at a s at (c.in_ok-place.ensures s h)))) (level_over_lem a.0 s h.stands);

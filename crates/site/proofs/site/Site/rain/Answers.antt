@@ -21,7 +21,7 @@ returns-in_err-at c =
     let answer = λ (s : State) (h : Shows c.args.self.now s). rain_no_leaf a v s c.in_err-at.field-0.0 c.from_residual.result (c.in_err-at.ensures s h) is in
     record {
       answer = answer;
-      first_no_lem = λ s h. answer_in_words (rain_questions a v s) _ tt (answer s h);
+      first_no = λ s h. answer_in_words (rain_questions a v s) _ tt (answer s h);
       water = λ s h e. absurd (false≢true (sym (ap is_ok is) ∙ e));
       rained = λ s h e. absurd (false≢true (sym (ap is_ok is) ∙ e));
       kept = λ e. refl;
@@ -39,7 +39,7 @@ returns-in_err-accepted c =
     c.in_err-accepted.field-0.0 c.from_residual-in_err-accepted.result c.in_err-accepted.ensures is in
     record {
       answer = answer;
-      first_no_lem = λ s h. answer_in_words (rain_questions a v s) _ tt (answer s h);
+      first_no = λ s h. answer_in_words (rain_questions a v s) _ tt (answer s h);
       water = λ s h e. absurd (false≢true (sym (ap is_ok is) ∙ e));
       rained = λ s h e. absurd (false≢true (sym (ap is_ok is) ∙ e));
       kept = λ e. refl;
@@ -59,14 +59,15 @@ invariant_of-self c =
     let a = c.args.leaf in
     let v = c.args.litres in
     let at = c.in_ok-at.at in
-    let counted = rain_counted v site.accepted c.in_ok-accepted.accepted c.in_ok-accepted.ensures in (
-      ∥∥₁_map site.holds (λ h. (
+    let counted = rain_counted v site.accepted c.in_ok-accepted.accepted c.in_ok-accepted.ensures in
+    record {
+      holds = ∥∥₁_map site.holds (λ h. (
         rained_on a v h.0,
         rained_holds site.table c.pour.new.self site.accepted site.pumped c.in_ok-accepted.accepted c.top-top.result at c.pour.result a v h.0 h.1 counted
             c.top-top.ensures (leaf_at a h.0 at (c.in_ok-at.ensures h.0 h.1)) c.pour.ensures.water c.pour.ensures.count,
-      )),
-      (omega (arith, counted.0, counted.1), tt),
-    )
+      ));
+      limit = omega (arith, counted.0, counted.1);
+    }
 
 pub returns : goal.returns
 returns c =
@@ -80,7 +81,7 @@ returns c =
     rain_accepted a v s at site.accepted (c.in_ok-at.ensures s h) h.accepted k c.in_ok-accepted.ensures in
     record {
       answer = answer;
-      first_no_lem = λ s h. answer_in_words (rain_questions a v s) _ tt (answer s h);
+      first_no = λ s h. answer_in_words (rain_questions a v s) _ tt (answer s h);
       water = λ s h e.
           rained_holds site.table c.pour.new.self site.accepted site.pumped k c.top-top.result at c.pour.result a v s h counted
           c.top-top.ensures (leaf_at a s at (c.in_ok-at.ensures s h)) c.pour.ensures.water c.pour.ensures.count;

@@ -16,7 +16,7 @@ invariant_of-result c =
     let h = c.in_ok-table.ensures in
     let p = table_read c.args.file.now c.in_ok-table.table h in
     let t = tree_in c.args.file.now in
-    (∣ (untouched t, dry_holds c.in_ok-table.table t p.1 (h.formed refl) (h.dry refl)) ∣₁, (omega arith, tt))
+    record { holds = ∣ (untouched t, dry_holds c.in_ok-table.table t p.1 (h.formed refl) (h.dry refl)) ∣₁; limit = omega arith }
 
 pub returns : goal.returns
 returns c =

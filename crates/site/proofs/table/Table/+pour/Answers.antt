@@ -21,7 +21,7 @@ returns-then-litres-eq0 t c =
 pub fill_record-requires : goal.fill_record-requires
 fill_record-requires t c =
     let one = alone c.args.self.now.nodes c.args.root c.args.leaf c.args.litres c.in_default.not-Merge in
-    (c.requires.place, ∥∥₁_elim c.requires.rooted le_prop (λ h. omega (arith, (one h.0 h.1 h.2 h.3).drains, h.4)))
+    record { inside = c.requires.place; litres_fit = ∥∥₁_elim c.requires.rooted le_prop (λ h. omega (arith, (one h.0 h.1 h.2 h.3).drains, h.4)) }
 
 pub returns-in_default : goal.returns-in_default
 returns-in_default t c =
@@ -38,7 +38,7 @@ pub sides_from-sides-requires : goal.sides_from-sides-requires
 sides_from-sides-requires t c =
     let m = c.in-Merge in
     let past = merge_past c.args.self.now.nodes c.args.root m.own m.water m.cut m.left m.right m.is c.args.litres c.requires.rooted in
-    (past.0, omega (arith, past.0, past.1))
+    record { has_left = past.0; has_right = omega (arith, past.0, past.1) }
 
 pub pour-spilled-requires : goal.pour-spilled-requires
 pour-spilled-requires t c =
@@ -68,7 +68,7 @@ fill_record-requires-2 t c =
     c.args.leaf c.args.litres d.first d.second d.landing c.sides_from-sides.ensures
     c.pour-spilled.new.self.nodes c.pour-spilled.result c.pour-spilled.ensures.water
     c.pour-rest.new.self.nodes c.pour-rest.result c.pour-rest.ensures.water c.requires.rooted in
-    (c.requires.place, omega (arith, dry, c.pour-rest.type_inv))
+    record { inside = c.requires.place; litres_fit = omega (arith, dry, c.pour-rest.type_inv) }
 
 pub returns : goal.returns
 returns t c =

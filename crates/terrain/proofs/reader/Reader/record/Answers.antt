@@ -11,7 +11,7 @@ read-requires g c =
     let w = c.record_bytes.ensures.answer in
     let p = step_gave c.args.self.now.file.now c.args.self.now.place.at c.record_bytes.result c.in-Some.bytes.now h.bytes in
     let m = g.met.E.Edition.least in
-    record { bytes_len = p.long ∙ w; at_bound = let b = h.bound in let t = h.place in grind (arith, nat_tests) }
+    record { whole = p.long ∙ w; place_fits = let b = h.bound in let t = h.place in grind (arith, nat_tests) }
 
 pub returns-in-Some : goal.returns-in-Some
 returns-in-Some g c =

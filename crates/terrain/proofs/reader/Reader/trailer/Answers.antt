@@ -7,7 +7,7 @@ use Rattle.terrain.proofs.reader.Reader.trailer.Goals as goal
 pub read-requires : goal.read-requires
 read-requires c =
     let n = length c.args.self.now.file.now in
-    record { tail_len = ap length c.part-tail.ensures.bytes ∙ length_part c.args.self.now.file.now _ 12 (omega arith); tail_fits = omega arith }
+    record { whole = ap length c.part-tail.ensures.bytes ∙ length_part c.args.self.now.file.now _ 12 (omega arith); within = omega arith }
 
 pub returns : goal.returns
 returns c =

@@ -5,14 +5,14 @@ use Rattle.std.proofs.lemmas.Bool.Decides.{nat_tests}
 
 pub returns-then-not-volume_fits : goal.returns-then-not-volume_fits
 returns-then-not-volume_fits g c =
-    let o = volume_is g.E.ByteOrder.number g.E.Edition.record_len c.in-Some-volume.own c.args.bytes.now c.requires.bytes_len c.in-Some-volume.ensures.answer in
+    let o = volume_is g.E.ByteOrder.number g.E.Edition.record_len c.in-Some-volume.own c.args.bytes.now c.requires.whole c.in-Some-volume.ensures.answer in
     let k = c.in-Some.ensures in
     let f = c.if-not-volume_fits.ensures in
     grind (arith, nat_tests)
 
 pub returns : goal.returns
 returns g c =
-    let o = volume_is g.E.ByteOrder.number g.E.Edition.record_len c.in-Some-volume.own c.args.bytes.now c.requires.bytes_len c.in-Some-volume.ensures.answer in
+    let o = volume_is g.E.ByteOrder.number g.E.Edition.record_len c.in-Some-volume.own c.args.bytes.now c.requires.whole c.in-Some-volume.ensures.answer in
     let k = c.in-Some.ensures in
     let f = c.if-not-volume_fits.ensures in
     let l = two_bytes c.args.bytes.now 2 3 refl (omega (arith, g.met.E.Edition.least)) in

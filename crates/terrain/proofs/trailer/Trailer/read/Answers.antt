@@ -8,5 +8,5 @@ use Rattle.std.proofs.Common.{refl, arith}
 pub returns-in-First : goal.returns-in-First
 returns-in-First c =
     let z = two_bytes c.args.tail.now 6 7 refl (omega arith) in
-    signed_then c.args.total c.args.tail.now _ First c.numbers.result c.requires.tail_fits c.in-First.is c.in-Some.ensures
+    signed_then c.args.total c.args.tail.now _ First c.numbers.result c.requires.within c.in-First.is c.in-Some.ensures
     (grind (arith, nat_tests)) c.numbers.ensures
