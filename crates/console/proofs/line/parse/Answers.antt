@@ -8,24 +8,24 @@ returns-in-79 c =
     let line = c.args.line.now in
     totals_read line (one_byte line 79 (omega (arith, ltb-true, ltb-false)) (omega arith))
 
-pub returns-in_err-leaf : goal.returns-in_err-leaf
-returns-in_err-leaf c =
+pub returns-in_err-leaf-in-82 : goal.returns-in_err-leaf-in-82
+returns-in_err-leaf-in-82 c =
     let line = c.args.line.now in
     subst (Reads line) (sym c.from_residual.ensures)
-    (rain_not_read line _ (two_and_rest line 82 32 (omega (arith, ltb-false)) (omega arith) (omega arith)) c.in_err-leaf.ensures)
+    (rain_not_read line _ (two_and_rest line 82 32 (omega (arith, ltb-false)) (omega arith) (omega arith)) c.in_err-leaf-in-82.ensures)
 
-pub returns-in_err-leaf-2 : goal.returns-in_err-leaf-2
-returns-in_err-leaf-2 c =
+pub returns-in_err-leaf-in-76 : goal.returns-in_err-leaf-in-76
+returns-in_err-leaf-in-76 c =
     let line = c.args.line.now in
-    subst (Reads line) (sym c.from_residual-in_err-leaf-2.ensures)
-    (level_not_read line _ (two_and_rest line 76 32 (omega (arith, ltb-false)) (omega arith) (omega arith)) c.in_err-leaf-2.ensures)
+    subst (Reads line) (sym c.from_residual-in_err-leaf-in-76.ensures)
+    (level_not_read line _ (two_and_rest line 76 32 (omega (arith, ltb-false)) (omega arith) (omega arith)) c.in_err-leaf-in-76.ensures)
 
-pub returns-in_ok-leaf : goal.returns-in_ok-leaf
-returns-in_ok-leaf c =
+pub returns-in_ok-leaf-in-82 : goal.returns-in_ok-leaf-in-82
+returns-in_ok-leaf-in-82 c =
     let line = c.args.line.now in
-    rain_read line _ _ _ (two_and_rest line 82 32 (omega (arith, ltb-false)) (omega arith) (omega arith)) c.in_ok-leaf.ensures
+    rain_read line _ _ _ (two_and_rest line 82 32 (omega (arith, ltb-false)) (omega arith) (omega arith)) c.in_ok-leaf-in-82.ensures
 
-pub returns-in_ok-leaf-2 : goal.returns-in_ok-leaf-2
-returns-in_ok-leaf-2 c =
+pub returns-in_ok-leaf-in-76 : goal.returns-in_ok-leaf-in-76
+returns-in_ok-leaf-in-76 c =
     let line = c.args.line.now in
-    level_read line _ _ (two_and_rest line 76 32 (omega (arith, ltb-false)) (omega arith) (omega arith)) c.in_ok-leaf-2.ensures
+    level_read line _ _ (two_and_rest line 76 32 (omega (arith, ltb-false)) (omega arith) (omega arith)) c.in_ok-leaf-in-76.ensures

@@ -21,7 +21,7 @@ returns-in-Err-load c =
     let file = c.args.file.now in
     let x = c.in-Err-load.refusal in
     let q = verdict_err (first_no (questions file)) x tt c.in-Err-load.ensures.answer in
-    made_as string_bytes c.refusal-text_in-Err-load.result (told_refused file x q) c.refusal-text_in-Err-load.ensures
+    made_as string_bytes c.refusal_text-in-Err-load.result (told_refused file x q) c.refusal_text-in-Err-load.ensures
 
 pub returns-in-Ok-load : goal.returns-in-Ok-load
 returns-in-Ok-load c =
