@@ -1,7 +1,7 @@
 -- The number of the first covering zone in words is the one that the search finds.
-use Rattle.std.proofs.Common.{◌≡◌, ℕ, zero, suc, ◌<◌, Bool, true, false, cond, List, [], ◌∷◌, length, refl, arith}
+use Rattle.std.proofs.Common.{◌≡◌, ℕ, zero, suc, Bool, true, false, cond, List, [], ◌∷◌, length, refl, arith}
 use Rattle.raster.specs.declared.zones.Zone.{Zone}
-use Rattle.raster.specs.Zones.{covers, first_covering, zone_at, NoneCovers, OfTheFirst}
+use Rattle.raster.specs.Zones.{covers, first_covering, NoneCovers, OfTheFirst}
 
 -- One zone more that does not cover the cell.
 none_more : (z : Zone) (zs : List Zone) (row col n : ℕ) → covers z row col ≡ false → NoneCovers n zs row col

@@ -1,5 +1,5 @@
 -- One text more after those that are told.
-use Rattle.std.proofs.Common.{◌≡◌, ℕ, ◌+◌, List, ◌++◌, sym, refl, ap, ◌∙◌, append_assoc, add-one}
+use Rattle.std.proofs.Common.{◌≡◌, ℕ, ◌+◌, List, ◌++◌, sym, ap, ◌∙◌, append_assoc, add-one}
 use Rattle.raster_text.specs.Map.{joined}
 
 pub told_more : (text : ℕ → List ℕ) (n : ℕ) (was before after : List ℕ) → before ≡ was ++ joined text n

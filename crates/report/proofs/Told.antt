@@ -1,5 +1,5 @@
 -- Which text a file's questions lead to.
-use Rattle.std.proofs.Common.{◌≡◌, ℕ, List, length, Some, None, Err, Option, sym, refl, ap, ◌∙◌}
+use Rattle.std.proofs.Common.{◌≡◌, ℕ, List, length, Some, None, Err, Option, sym, ap, ◌∙◌}
 use Rattle.questions.specs.Ask.{first_no, verdict}
 use Rattle.terrain.specs.Trailer.{name_of, note_length, tail_of, trailer_of, trailer_questions}
 use Rattle.terrain.specs.declared.refusal.Refusal.{Refusal}

@@ -1,5 +1,5 @@
 -- What the loader has built stays as it should be from record to record.
-use Rattle.std.proofs.Common.{◌≡◌, ℕ, zero, suc, ◌+◌, ◌-◌, ◌^◌, ◌<◌, ◌≤◌, min, Bool, true, false, not, ◌&&◌, ◌||◌, eqb, ltb, leb, List, [], ◌∷◌, ◌++◌, map, length, set, replicate, None, sym, refl, ap, ◌∙◌, subst, arith}
+use Rattle.std.proofs.Common.{◌≡◌, ℕ, suc, ◌+◌, ◌-◌, ◌^◌, ◌<◌, ◌≤◌, min, Bool, true, not, ◌&&◌, ◌||◌, eqb, ltb, leb, List, [], ◌∷◌, ◌++◌, map, length, set, replicate, None, sym, refl, ap, ◌∙◌, subst, arith}
 use Rattle.std.proofs.lemmas.List.{append_assoc, length-append, length-map, set_at}
 use Rattle.std.proofs.lemmas.Bool.{and_parts, eqb-true}
 use Rattle.std.proofs.lemmas.Bool.Decides.{nat_tests}
@@ -10,7 +10,7 @@ use Rattle.terrain.specs.declared.record.Kind.TheVariants.{Basin, Merge, Outlet}
 use Rattle.terrain.specs.declared.record.Record.{Record}
 use Rattle.terrain.specs.declared.refusal.Refusal.{Refusal}
 use Rattle.terrain.specs.declared.refusal.Refusal.TheVariants.{Waiting, Landings, OpenVolume}
-use Rattle.water.specs.Tree.{Tree, basin, outlet, merge, size, first, outlets, is_open, has_leaf, dried}
+use Rattle.water.specs.Tree.{Tree, basin, outlet, merge, size, first, outlets, has_leaf, dried}
 use Rattle.water.specs.Formed.{Numbered, Shaped}
 use Rattle.site.specs.Building.{written, Lined, Ready, summary_of, Building}
 use Rattle.site.specs.Loader.{leaf_among, enough_seen, sides_seen, landed_seen, outlets_seen, open_seen, questions_seen, node_for, table_after, summaries_after, merged_summaries}

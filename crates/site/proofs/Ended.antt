@@ -1,5 +1,5 @@
 -- From an empty table to the tree of all the records.
-use Rattle.std.proofs.Common.{◌≡◌, ℕ, zero, suc, ◌+◌, ◌-◌, ◌*◌, ◌<◌, ◌≤◌, true, false, eqb, List, [], ◌∷◌, ◌++◌, map, length, replicate, is_ok, Some, None, Ok, Err, Option, Result, sym, refl, ap, ◌∙◌, subst, zero-mul, arith}
+use Rattle.std.proofs.Common.{◌≡◌, ℕ, ◌+◌, ◌-◌, ◌≤◌, true, false, eqb, List, [], ◌∷◌, ◌++◌, map, length, replicate, is_ok, Some, None, Ok, Err, Option, Result, sym, refl, ap, ◌∙◌, subst, zero-mul, arith}
 use Rattle.std.proofs.lemmas.List.{length-map}
 use Rattle.std.proofs.lemmas.Bool.{cond-true, eqb-true, le-leb}
 use Rattle.questions.proofs.Asked.{all_yes}
@@ -17,12 +17,11 @@ use Rattle.water.specs.Tree.{Tree, dried, first, outlets, size}
 use Rattle.site.specs.Building.{Building, listed, summary_of}
 use Rattle.site.specs.Fill.{Fits, Reached, Spelled}
 use Rattle.site.specs.Held.{tabled}
-use Rattle.site.specs.Loader.{end_seen, newest_outlets}
+use Rattle.site.specs.Loader.{end_seen}
 use Rattle.site.specs.Postorder.{postorder, records_in}
 use Rattle.site.specs.Questions.{end_questions, outlets_of, questions_from}
 use Rattle.site.specs.Records.{records}
 use Rattle.site.specs.Spell.{newest, start_of, tree_of, waiting}
-use Rattle.site.specs.declared.node.Node.{Node}
 use Rattle.site.specs.declared.node.Node.TheVariants.{Unused}
 use Rattle.site.specs.declared.node.Summary.{Summary}
 use Rattle.site.specs.declared.table.Table.{Table}

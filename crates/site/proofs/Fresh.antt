@@ -1,5 +1,5 @@
 -- The lone outlet is a site's tree.
-use Rattle.std.proofs.Common.{◌≡◌, refl, arith}
+use Rattle.std.proofs.Common.{refl, arith}
 use Rattle.water.specs.Tree.{outlet}
 use Rattle.water.specs.Formed.{Formed}
 

@@ -1,5 +1,5 @@
 -- From the trailer to the whole file.
-use Rattle.std.proofs.Common.{◌≡◌, ℕ, ◌+◌, ◌-◌, ◌*◌, ◌^◌, ◌<◌, ◌≤◌, Bool, true, false, ◌&&◌, eqb, leb, List, [], ◌∷◌, ◌++◌, length, is_ok, Some, None, Ok, Err, Option, Result, sym, refl, ap, ◌∙◌, subst, arith}
+use Rattle.std.proofs.Common.{◌≡◌, ℕ, ◌-◌, ◌*◌, ◌^◌, ◌<◌, ◌≤◌, true, eqb, leb, List, length, Some, None, Ok, Err, Option, Result, sym, ap, ◌∙◌, subst, arith}
 use Rattle.std.proofs.lemmas.Bool.{and_parts, eqb-true, leb-true}
 use Rattle.questions.specs.Ask.{AllYes, first_no, verdict}
 use Rattle.terrain.specs.Format.{Format}
@@ -16,7 +16,7 @@ use Rattle.site.specs.Held.{tabled}
 use Rattle.site.specs.Loaded.{OnlyTree, TableRead}
 use Rattle.site.specs.Postorder.{postorder, records_in}
 use Rattle.site.specs.Questions.{questions, questions_from}
-use Rattle.site.specs.Spell.{count_in, format_in, start_of, tree_in, tree_of}
+use Rattle.site.specs.Spell.{count_in, format_in, tree_in}
 use Rattle.site.specs.declared.table.Table.{Table}
 use Rattle.site.proofs.Ended.{no_ok, same_file}
 use Rattle.site.proofs.Listed.{one_postorder}

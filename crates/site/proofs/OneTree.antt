@@ -4,7 +4,7 @@ use Rattle.std.proofs.lemmas.List.{append_assoc}
 use Rattle.water.specs.Tree.{Tree, basin, outlet, merge, size}
 use Rattle.water.specs.Formed.{Numbered}
 use Rattle.water.specs.State.{State}
-use Rattle.site.specs.Held.{Holds, tabled}
+use Rattle.site.specs.Held.{Holds}
 use Rattle.site.specs.Records.{records, table_of}
 use Rattle.site.specs.declared.node.Node.{Node}
 use Rattle.site.specs.declared.node.Node.TheVariants.{Unused, Basin, Outlet, Merge}

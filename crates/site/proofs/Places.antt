@@ -1,11 +1,10 @@
 -- Subtrees in their places among the records of a table.
-use Rattle.std.proofs.Common.{◌≡◌, ℕ, ◌+◌, ◌-◌, ◌<◌, ◌≤◌, List, [], ◌∷◌, ◌++◌, length, get_or, set, sym, refl, ap, ◌∙◌, subst, arith}
+use Rattle.std.proofs.Common.{◌≡◌, ℕ, ◌+◌, ◌-◌, List, [], ◌∷◌, ◌++◌, length, get_or, set, sym, refl, ap, ◌∙◌, subst, arith}
 use Rattle.std.proofs.lemmas.List.{append_assoc, length-append, get_or_at, set_at}
 use Rattle.water.specs.Tree.{Tree, basin, outlet, merge, size, dried}
 use Rattle.water.specs.Formed.{Numbered}
-use Rattle.water.specs.Parts.{number}
 use Rattle.water.proofs.Numbers.{last_number}
-use Rattle.water.proofs.Shape.{size_same, numbered_same, number_same}
+use Rattle.water.proofs.Shape.{size_same, numbered_same}
 use Rattle.site.specs.Records.{records}
 use Rattle.site.specs.Subtree.{Subtree}
 use Rattle.site.specs.declared.node.Node.{Node}

@@ -1,13 +1,11 @@
 -- Pouring into a subtree in its place, side after side.
-use Rattle.std.proofs.Common.{◌≡◌, ℕ, ◌+◌, ◌-◌, ◌^◌, ◌<◌, ◌≤◌, min, List, [], ◌∷◌, ◌++◌, length, get_or, set, sym, refl, ap, ◌∙◌, subst, ⊎_elim, arith}
+use Rattle.std.proofs.Common.{◌≡◌, ℕ, ◌-◌, ◌<◌, ◌≤◌, List, [], ◌∷◌, ◌++◌, get_or, set, sym, refl, ap, ◌∙◌, subst, ⊎_elim, arith}
 use mathlib.Core.Logic.{∥∥₁_elim, ∥∥₁_map}
 use native.Mathlib.Bridge.{le_prop}
 use Rattle.std.proofs.lemmas.Bool.{cases_lt}
-use Rattle.water.specs.Tree.{Tree, basin, outlet, merge, size, dried}
-use Rattle.water.specs.Parts.{number}
+use Rattle.water.specs.Tree.{Tree, basin, outlet, merge}
 use Rattle.water.specs.Pour.{excess, poured}
 use Rattle.water.specs.Water.{held}
-use Rattle.water.proofs.Numbers.{last_number}
 use Rattle.water.proofs.Order.{obeys}
 use Rattle.water.proofs.Shape.{shape_kept}
 use Rattle.water.proofs.Steps.{excess_basin, excess_outlet, excess_left, excess_right, poured_basin, poured_outlet, poured_left, poured_right}
@@ -15,7 +13,7 @@ use Rattle.site.specs.Filling.{drained, filled_node, over_node}
 use Rattle.site.specs.Records.{records}
 use Rattle.site.specs.Subtree.{PouredAt, Rooted, SidesFrom, Subtree}
 use Rattle.site.specs.declared.node.Node.{Node}
-use Rattle.site.specs.declared.node.Node.TheVariants.{Unused, Basin, Outlet, Merge}
+use Rattle.site.specs.declared.node.Node.TheVariants.{Unused, Merge}
 use Rattle.site.proofs.Places.{top_node, as_merge, below, at_top_lem, set_top, left_in, right_in, left_changed, right_changed}
 use Rattle.site.proofs.Trees.{size_pos}
 

@@ -1,10 +1,10 @@
 -- What is seen of a subtree in its place.
-use Rattle.std.proofs.Common.{◌≡◌, ℕ, ◌+◌, ◌-◌, ◌^◌, ◌<◌, ◌≤◌, false, eqb, ltb, List, get_or, sym, ap, ◌∙◌, ap₂, arith}
+use Rattle.std.proofs.Common.{◌≡◌, ℕ, ◌+◌, ◌-◌, ◌^◌, ◌<◌, false, eqb, ltb, List, get_or, sym, ap, ◌∙◌, ap₂, arith}
 use mathlib.Core.Logic.{∥∥₁_elim, ∥∥₁_map}
 use native.Mathlib.Bridge.{le_prop}
 use Rattle.water.specs.Tree.{Tree, basin, outlet, merge}
 use Rattle.water.specs.Water.{held}
-use Rattle.site.specs.Subtree.{Rooted, Subtree, SurveyedAt}
+use Rattle.site.specs.Subtree.{Rooted, SurveyedAt}
 use Rattle.site.specs.Surveys.{joined, survey_of}
 use Rattle.site.specs.declared.node.Node.{Node}
 use Rattle.site.specs.declared.node.Node.TheVariants.{Unused, Basin, Outlet, Merge}

@@ -1,5 +1,5 @@
 -- How a table holds a tree.
-use Rattle.std.specs.Prelude.{◌≡◌, ℕ, ◌-◌, List, [], ◌∷◌, ◌++◌, replicate}
+use Rattle.std.specs.Prelude.{◌-◌, List, [], ◌∷◌, ◌++◌, replicate}
 use Rattle.water.specs.Tree.{Tree, basin, outlet, merge, size}
 use Rattle.site.specs.declared.node.Node.{Node}
 use Rattle.site.specs.declared.node.Node.TheVariants.{Unused, Basin, Outlet, Merge}

@@ -1,5 +1,5 @@
 -- The tree that a file's records spell in postorder.
-use Rattle.std.specs.Prelude.{◌≡◌, ℕ, zero, suc, ◌+◌, ◌-◌, ◌*◌, List, [], ◌∷◌, length, drop}
+use Rattle.std.specs.Prelude.{ℕ, zero, suc, ◌+◌, ◌*◌, List, [], ◌∷◌, length}
 use Rattle.terrain.specs.Format.{Format, part}
 use Rattle.terrain.specs.Record.{record_of}
 use Rattle.terrain.specs.Trailer.{tail_of, name_of, format_of, count_of, note_length}

@@ -1,11 +1,11 @@
 -- What a step of a reader tells.
-use Rattle.std.proofs.Common.{◌≡◌, ℕ, ◌+◌, ◌-◌, ◌≤◌, min, Bool, true, false, cond, List, length, take, drop, Some, None, Option, Result, sym, refl, ap, ◌∙◌, subst, arith}
+use Rattle.std.proofs.Common.{◌≡◌, ℕ, ◌+◌, ◌-◌, ◌≤◌, Bool, true, false, cond, List, length, drop, Some, None, Result, sym, refl, ap, ◌∙◌, subst, arith}
 use Rattle.std.proofs.lemmas.List.{length-take, length-drop, take_all}
-use Rattle.std.proofs.lemmas.Bool.{leb-true, le-leb, cond-true}
+use Rattle.std.proofs.lemmas.Bool.{leb-true, cond-true}
 use Rattle.questions.specs.Ask.{first_no, verdict}
 use Rattle.terrain.specs.Format.{Format, part}
 use Rattle.terrain.specs.Record.{record_of, record_questions}
-use Rattle.terrain.specs.Steps.{enough, bytes_at, next_record, record_at, place_after}
+use Rattle.terrain.specs.Steps.{enough, bytes_at, next_record, record_at}
 use Rattle.terrain.specs.Trailer.{tail_of}
 use Rattle.terrain.specs.declared.place.Place.{Place}
 use Rattle.terrain.specs.declared.reader.Reader.{Reader}

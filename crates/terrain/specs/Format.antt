@@ -1,5 +1,5 @@
 -- The editions of the format, by what they say.
-use Rattle.std.specs.Prelude.{ℕ, ◌-◌, cond, eqb, List, length, get_or, take, drop}
+use Rattle.std.specs.Prelude.{ℕ, List, take, drop}
 use Rattle.byte_order.specs.Bytes.{little, big}
 
 -- An edition: its digit, the bytes of a record, and the number that bytes spell.

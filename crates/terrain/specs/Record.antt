@@ -1,5 +1,5 @@
 -- A record by its bytes: the kind, a zero, the landings of two bytes each, two zeros and the own volume.
-use Rattle.std.specs.Prelude.{ℕ, ◌+◌, ◌^◌, Bool, true, false, cond, ◌&&◌, List, [], ◌∷◌, drop, ◌==◌, nat_le, nat_lt, slice_index}
+use Rattle.std.specs.Prelude.{ℕ, ◌+◌, ◌^◌, Bool, cond, ◌&&◌, List, [], ◌∷◌, drop, ◌==◌, nat_le, nat_lt, slice_index}
 use Rattle.questions.specs.Ask.{Question, ask}
 use Rattle.terrain.specs.Format.{Format, part}
 use Rattle.terrain.specs.Zeros.{all_zero}

@@ -1,8 +1,7 @@
 -- What the calls on a site leave and answer.
-use Rattle.std.proofs.Common.{◌≡◌, ℕ, ◌+◌, ◌^◌, ◌≤◌, true, sym, refl, ap, ◌∙◌, arith}
-use Rattle.water.specs.Tree.{Tree, has_leaf}
+use Rattle.std.proofs.Common.{◌≡◌, ℕ, ◌+◌, ◌^◌, ◌≤◌, true, refl, arith}
+use Rattle.water.specs.Tree.{has_leaf}
 use Rattle.water.specs.Pour.{excess, poured}
-use Rattle.water.specs.Water.{held}
 use Rattle.water.specs.Level.{level}
 use Rattle.water.specs.State.{State, Standing}
 use Rattle.water.specs.Calls.{LevelIs, Rained, rained_on}

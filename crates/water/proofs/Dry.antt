@@ -1,5 +1,5 @@
 -- Trees without water.
-use Rattle.std.proofs.Common.{◌≡◌, ℕ, ◌+◌, ◌≤◌, sym, refl, ap, ◌∙◌, subst, ap₂, arith}
+use Rattle.std.proofs.Common.{◌≡◌, sym, refl, ap, ◌∙◌, subst, ap₂, arith}
 use Rattle.water.specs.Tree.{Tree, basin, outlet, merge, dried}
 use Rattle.water.specs.Formed.{Formed}
 use Rattle.water.specs.Sound.{Within, Sound}

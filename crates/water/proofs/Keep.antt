@@ -4,7 +4,7 @@ use Rattle.std.proofs.lemmas.Bool.{cases_lt, and_parts, and_from, eqb-true, eq-e
 use Rattle.water.specs.Tree.{Tree, basin, outlet, merge, full}
 use Rattle.water.specs.Sound.{Within, Sound}
 use Rattle.water.specs.Pour.{poured, excess}
-use Rattle.water.specs.Water.{held, room}
+use Rattle.water.specs.Water.{held}
 use Rattle.water.proofs.Steps.{filled, excess_basin, excess_outlet, excess_left, excess_right, poured_basin, poured_outlet, poured_left, poured_right}
 use Rattle.water.proofs.Order.{obeys, Shut, shut_top}
 use Rattle.water.proofs.Shape.{shape_kept, formed_same}

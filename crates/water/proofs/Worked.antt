@@ -1,5 +1,5 @@
 -- The worked examples, by pouring all at once.
-use Rattle.std.proofs.Common.{◌≡◌, ℕ, ◌+◌, ◌≤◌, true, List, [], ◌∷◌, sym, refl, ◌∙◌, arith}
+use Rattle.std.proofs.Common.{◌≡◌, true, List, [], ◌∷◌, sym, refl, ◌∙◌, arith}
 use Rattle.std.proofs.lemmas.Bool.{false≢true}
 use Rattle.water.specs.Tree.{Tree, has_leaf, dried}
 use Rattle.water.specs.Sound.{Sound}

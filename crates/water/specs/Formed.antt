@@ -1,5 +1,5 @@
 -- What holds of the shape of every site.
-use Rattle.std.specs.Prelude.{◌≡◌, ℕ, ◌+◌, ◌^◌, ◌<◌, ◌≤◌, Bool, true, false}
+use Rattle.std.specs.Prelude.{◌≡◌, ℕ, ◌+◌, ◌^◌, ◌<◌, ◌≤◌, true}
 use Rattle.water.specs.Tree.{Tree, basin, outlet, merge, size, outlets, is_open, has_leaf}
 
 -- The records are numbered from b on in postorder, and each cut is its right side's first number.

@@ -1,5 +1,5 @@
 -- What holds of the water on every site.
-use Rattle.std.specs.Prelude.{◌≡◌, ℕ, ◌<◌, ◌≤◌, true}
+use Rattle.std.specs.Prelude.{◌≡◌, ◌<◌, ◌≤◌, true}
 use Rattle.water.specs.Tree.{Tree, basin, outlet, merge, full}
 use Rattle.water.specs.Formed.{Formed}
 

@@ -1,10 +1,10 @@
-use Rattle.std.proofs.Common.{◌≡◌, ℕ, ◌+◌, ◌^◌, ◌<◌, ◌≤◌, List, length, Some, sym, refl, ap, ◌∙◌, subst, arith}
+use Rattle.std.proofs.Common.{◌≡◌, ℕ, ◌≤◌, length, Some, sym, ap, ◌∙◌, arith}
 use Rattle.std.proofs.lemmas.List.{length-map}
 use Rattle.std.proofs.lemmas.Result.{err_from_is_err_and}
 use Rattle.terrain.specs.Format.{Format, format}
-use Rattle.stack.specs.Stack.{stacked, capacity}
+use Rattle.stack.specs.Stack.{stacked}
 use Rattle.site.specs.Building.{summary_of}
-use Rattle.site.specs.Spell.{start_of, waiting}
+use Rattle.site.specs.Spell.{waiting}
 use Rattle.site.proofs.Built.{few_wait}
 use Rattle.site.proofs.Taken.{next_there, there, refused_record, read_record, place_behind, filled_err, taken}
 use Rattle.site.proofs.fill.take_record.Goals as goal

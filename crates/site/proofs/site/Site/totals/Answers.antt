@@ -1,7 +1,5 @@
-use Rattle.std.proofs.Common.{◌≡◌, ℕ, ap, ◌∙◌, arith}
-use Rattle.water.specs.State.{State, litres}
-use Rattle.water.specs.Water.{outflow}
-use Rattle.water.specs.declared.units.Totals.{Totals}
+use Rattle.std.proofs.Common.{ap, ◌∙◌, arith}
+use Rattle.water.specs.State.{State}
 use Rattle.water.proofs.Room.{held_split}
 use Rattle.site.specs.Measures.{drained_sum}
 use Rattle.site.specs.Shows.{Shows}

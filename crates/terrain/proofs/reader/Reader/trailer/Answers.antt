@@ -1,4 +1,4 @@
-use Rattle.std.proofs.Common.{◌≡◌, ℕ, List, length, sym, refl, ap, ◌∙◌, subst, arith}
+use Rattle.std.proofs.Common.{◌≡◌, ℕ, List, length, ap, ◌∙◌, arith}
 use Rattle.questions.specs.Ask.{first_no, verdict}
 use Rattle.terrain.specs.Trailer.{tail_of, trailer_of, trailer_questions}
 use Rattle.terrain.proofs.Stepping.{length_part, put_back, tail_is}

@@ -1,4 +1,4 @@
-use Rattle.std.proofs.Common.{◌≡◌, true, false, sym, refl, ap, ◌∙◌, subst, arith, rules}
+use Rattle.std.proofs.Common.{refl, arith}
 use Rattle.terrain.proofs.Fields.{volume_is, two_bytes}
 use Rattle.terrain.proofs.record.Record.read.Goals as goal
 use Rattle.std.proofs.lemmas.Bool.Decides.{nat_tests}

@@ -1,7 +1,7 @@
 use Rattle.terrain.proofs.Fields.{two_bytes}
 use Rattle.terrain.proofs.Signed.{signed_then}
 use Rattle.terrain.proofs.trailer.Trailer.read.Goals as goal
-use Rattle.terrain.specs.declared.trailer.EditionName.TheVariants.{First, Second}
+use Rattle.terrain.specs.declared.trailer.EditionName.TheVariants.{First}
 use Rattle.std.proofs.lemmas.Bool.Decides.{nat_tests}
 use Rattle.std.proofs.Common.{refl, arith}
 
