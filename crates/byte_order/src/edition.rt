@@ -61,7 +61,7 @@ impl Edition for LittleEndian {
 
     ghost most = { Prim.search rules };
 
-    ghost fits = { volume_below little little_below 12 (omega arith) };
+    ghost fits = { volume_below little little_below 12 (Prim.omega arith) };
 
     fn digit_byte() -> u8 {
         Self::DIGIT
@@ -96,7 +96,7 @@ impl Edition for BigEndian {
 
     ghost most = { Prim.search rules };
 
-    ghost fits = { volume_below big big_below 16 (omega arith) };
+    ghost fits = { volume_below big big_below 16 (Prim.omega arith) };
 
     fn digit_byte() -> u8 {
         Self::DIGIT

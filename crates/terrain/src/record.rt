@@ -1,5 +1,5 @@
 // A record of a terrain file, read from its bytes.
-ghost use Rattle.std.specs.Prelude.{◌≡◌, ◌+◌, ◌^◌, ◌<◌, ◌&&◌, leb, length, if◌then◌else◌, Some, None, nat_le};
+ghost use Rattle.std.specs.Prelude.{◌≡◌, ◌+◌, ◌^◌, ◌<◌, ◌&&◌, length, if◌then◌else◌, Some, None, nat_le};
 ghost use Rattle.questions.specs.Ask.{first_no, verdict};
 ghost use Rattle.terrain.specs.Format.{format};
 ghost use Rattle.terrain.specs.Record.{kind_of, record_of, record_questions, volume_fits};
@@ -29,7 +29,7 @@ pub const VOLUME_LIMIT: u64 = 1 << 40;
 
 // The kind that a byte stands for.
 fn kind_of(byte: u8) -> Option<Kind>
-    ensures { result ≡ (if leb 1 byte && nat_le byte 3 then Some (kind_of byte) else None) }
+    ensures { result ≡ (if nat_le 1 byte && nat_le byte 3 then Some (kind_of byte) else None) }
 {
     match byte {
         1 => Some(Kind::Basin),

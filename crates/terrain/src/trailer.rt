@@ -1,5 +1,5 @@
 // The trailer of a terrain file, read from its last 12 bytes.
-ghost use Rattle.std.specs.Prelude.{◌≡◌, ℕ, ◌≤◌, length, if◌then◌else◌, Some, None};
+ghost use Rattle.std.specs.Prelude.{◌≡◌, ◌≤◌, length, if◌then◌else◌, Some, None};
 ghost use Rattle.questions.specs.Ask.{first_no, verdict};
 ghost use Rattle.terrain.specs.Format.{format, part};
 ghost use Rattle.terrain.specs.Trailer.{count_questions, name_of, signed, trailer_as, trailer_of, trailer_questions};
