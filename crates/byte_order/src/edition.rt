@@ -13,35 +13,27 @@ pub trait Edition: ByteOrder {
     // The digit in a file's trailer that names the edition.
     const DIGIT: u8;
 
+    // The same, for clauses.
+    ghost DIGIT: { ℕ };
+
     // How many bytes a record has.
     const RECORD_LEN: usize;
 
-    // `DIGIT`, for clauses.
-    ghost digit: { ℕ };
-
-    // `RECORD_LEN`, for clauses.
-    ghost record_len: { ℕ };
-
-    // `DIGIT`, for generic code.
-    fn digit_byte() -> u8
-        ensures answer { result ≡ digit };
-
-    // `RECORD_LEN`, for generic code.
-    fn record_bytes() -> usize
-        ensures answer { result ≡ record_len };
+    // The same, for clauses.
+    ghost RECORD_LEN: { ℕ };
 
     // The number in a record's volume field, if the field has this edition's width.
     fn volume(field: &[u8]) -> Option<u64>
-        ensures answer { result ≡ volume_in Self.ByteOrder.number record_len field.now };
+        ensures answer { result ≡ volume_in Self.number RECORD_LEN field.now };
 
     // A record has room for the eight bytes before its volume.
-    ghost least: { 8 ≤ record_len };
+    ghost least: { 8 ≤ RECORD_LEN };
 
     // A volume has eight bytes at most.
-    ghost most: { record_len ≤ 16 };
+    ghost most: { RECORD_LEN ≤ 16 };
 
     // So every volume is a number of 64 bits.
-    ghost fits: { (bs : List ℕ) → Bytes bs → length bs ≡ volume_width record_len → Self.ByteOrder.number bs < 2 ^ 64 };
+    ghost fits: { (bs : List ℕ) → Bytes bs → length bs ≡ volume_width RECORD_LEN → Self.number bs < 2 ^ 64 };
 }
 
 // Edition 1, of the old client: little-endian, with volumes of four bytes.
@@ -53,9 +45,9 @@ impl Edition for LittleEndian {
 
     const RECORD_LEN: usize = 12;
 
-    ghost digit = { 49 };
+    ghost DIGIT = { 49 };
 
-    ghost record_len = { 12 };
+    ghost RECORD_LEN = { 12 };
 
     ghost least = { Prim.search rules };
 
@@ -63,19 +55,9 @@ impl Edition for LittleEndian {
 
     ghost fits = { volume_below little little_below 12 (Prim.omega arith) };
 
-    fn digit_byte() -> u8 {
-        Self::DIGIT
-    }
-
-    fn record_bytes() -> usize {
-        Self::RECORD_LEN
-    }
-
     fn volume(field: &[u8]) -> Option<u64> {
-        match <[u8; 4]>::try_from(field) {
-            Ok(bytes) => Some(Self::read_u32(bytes) as u64),
-            Err(_) => None,
-        }
+        let bytes = <[u8; 4]>::try_from(field).ok()?;
+        Some(u64::from(Self::read::<u32>(bytes)))
     }
 }
 
@@ -88,9 +70,9 @@ impl Edition for BigEndian {
 
     const RECORD_LEN: usize = 16;
 
-    ghost digit = { 50 };
+    ghost DIGIT = { 50 };
 
-    ghost record_len = { 16 };
+    ghost RECORD_LEN = { 16 };
 
     ghost least = { Prim.search rules };
 
@@ -98,18 +80,8 @@ impl Edition for BigEndian {
 
     ghost fits = { volume_below big big_below 16 (Prim.omega arith) };
 
-    fn digit_byte() -> u8 {
-        Self::DIGIT
-    }
-
-    fn record_bytes() -> usize {
-        Self::RECORD_LEN
-    }
-
     fn volume(field: &[u8]) -> Option<u64> {
-        match <[u8; 8]>::try_from(field) {
-            Ok(bytes) => Some(Self::read_u64(bytes)),
-            Err(_) => None,
-        }
+        let bytes = <[u8; 8]>::try_from(field).ok()?;
+        Some(Self::read::<u64>(bytes))
     }
 }

@@ -1,5 +1,5 @@
 -- What every refusal tells: its number, its layer, its place and what was found.
-use Rattle.std.specs.Prelude.{ℕ, List, codes}
+use Rattle.std.specs.Prelude.{ℕ, List, ◌++◌, codes, decimal}
 use Rattle.questions.specs.declared.layer.Layer.{Layer}
 use Rattle.questions.specs.declared.layer.Layer.TheVariants.{Trailer, Record, Tree, Water, Line}
 
@@ -21,3 +21,7 @@ layer_name Record = codes "record"
 layer_name Tree = codes "tree"
 layer_name Water = codes "water"
 layer_name Line = codes "line"
+
+-- What a refusal tells, in words: its number, its layer and its place.
+abbrev pub told_text : ℕ → Layer → ℕ → List ℕ
+told_text n l p = codes "no " ++ decimal n ++ codes " " ++ layer_name l ++ codes " " ++ decimal p

@@ -1,9 +1,11 @@
 // The layers that ask questions.
 ghost use Rattle.questions.specs.Case.{layer_name};
-ghost use Rattle.std.specs.Prelude.{◌≡◌};
+ghost use Rattle.std.specs.Prelude.{Some};
+
+use std::fmt;
 
 /// The part of a check that found a refusal.
-#[derive(Clone, Copy)]
+#[derive(Clone, Copy, Debug, PartialEq, Eq)]
 pub enum Layer {
     /// The last 12 bytes of a terrain file.
     Trailer,
@@ -17,17 +19,17 @@ pub enum Layer {
     Line,
 }
 
-impl Layer {
-    /// The layer in small letters.
-    pub fn name(self) -> &'static str
-        ensures { result.now ≡ layer_name self }
-    {
-        match self {
+/// A layer is told in small letters.
+impl fmt::Display for Layer {
+    ghost output = { λ layer. Some (layer_name layer) };
+
+    fn fmt<W: fmt::Write>(&self, f: &mut fmt::Formatter<W>) -> fmt::Result {
+        f.write_str(match self {
             Layer::Trailer => "trailer",
             Layer::Record => "record",
             Layer::Tree => "tree",
             Layer::Water => "water",
             Layer::Line => "line",
-        }
+        })
     }
 }

@@ -3,5 +3,8 @@
 
 // The part of a check that asks.
 mod layer;
+// What a refusal tells.
+mod told;
 
 pub use layer::Layer;
+pub use told::{Refused, Told};

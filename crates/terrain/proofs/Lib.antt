@@ -1,3 +1,2 @@
-pub mod Fields
-pub mod Signed
+mod Numbers
 pub mod Stepping

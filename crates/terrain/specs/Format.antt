@@ -1,5 +1,5 @@
 -- The editions of the format, by what they say.
-use Rattle.std.specs.Prelude.{ℕ, List, take, drop}
+use Rattle.std.specs.Prelude.{ℕ, ◌-◌, cond, List, take, drop, length, Some, None, Option, nat_le}
 use Rattle.byte_order.specs.Bytes.{little, big}
 
 -- An edition: its digit, the bytes of a record, and the number that bytes spell.
@@ -23,3 +23,11 @@ edition2 = format 50 16 big
 -- The `count` bytes from `at` on.
 abbrev pub part : List ℕ → ℕ → ℕ → List ℕ
 part file at count = take count (drop at file)
+
+-- The last so many bytes, if there are so many.
+abbrev pub last_of : ℕ → List ℕ → Option (List ℕ)
+last_of count file = cond (nat_le count (length file)) (Some (drop (length file - count) file)) None
+
+-- What the implementation of an edition says.
+abbrev pub said_by : record { number : List ℕ → ℕ; spelling : ℕ → ℕ → List ℕ; DIGIT : ℕ; RECORD_LEN : ℕ } → Format
+said_by e = format e.DIGIT e.RECORD_LEN e.number

@@ -3,4 +3,5 @@ pub mod Format
 pub mod Record
 pub mod Steps
 pub mod Trailer
+pub mod Words
 pub mod Zeros

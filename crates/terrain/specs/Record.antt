@@ -1,17 +1,22 @@
 -- A record by its bytes: the kind, a zero, the landings of two bytes each, two zeros and the own volume.
-use Rattle.std.specs.Prelude.{ℕ, ◌+◌, ◌^◌, Bool, cond, ◌&&◌, List, [], ◌∷◌, drop, ◌==◌, nat_le, nat_lt, slice_index}
+use Rattle.std.specs.Prelude.{ℕ, ◌+◌, ◌^◌, Bool, cond, ◌&&◌, List, [], ◌∷◌, drop, Ok, Err, Result, ◌==◌, nat_le, nat_lt, slice_index}
 use Rattle.questions.specs.Ask.{Question, ask}
 use Rattle.terrain.specs.Format.{Format, part}
 use Rattle.terrain.specs.Zeros.{all_zero}
 use Rattle.terrain.specs.declared.record.Kind.{Kind as RecordKind}
 use Rattle.terrain.specs.declared.record.Kind.TheVariants.{Basin, Merge, Outlet}
 use Rattle.terrain.specs.declared.record.Record.{Record}
+use Rattle.terrain.specs.declared.record.UnknownKind.{UnknownKind}
 use Rattle.terrain.specs.declared.refusal.Refusal.{Refusal}
 use Rattle.terrain.specs.declared.refusal.Refusal.TheVariants.{Kind, RecordZeros, Volume}
 
 -- Kinds 1, 2 and 3 are basin, merge and outlet; other numbers are refused before this is asked.
 abbrev pub kind_of : ℕ → RecordKind
 kind_of k = cond (k == 1) Basin (cond (k == 2) Merge Outlet)
+
+-- A byte stands for one of the three, or for none.
+abbrev pub kind_in : ℕ → Result RecordKind UnknownKind
+kind_in k = cond (nat_le 1 k && nat_le k 3) (Ok (kind_of k)) (Err (record { 0 = k }))
 
 -- An own volume is below 2^40; the outlet has none.
 abbrev pub volume_fits : RecordKind → ℕ → Bool

@@ -1,5 +1,5 @@
 -- The trailer of a file, its last 12 bytes: the distance in four bytes, the count in two, two zeros, and the signature.
-use Rattle.std.specs.Prelude.{ℕ, ◌-◌, ◌*◌, Bool, cond, ◌&&◌, ◌||◌, List, [], ◌∷◌, length, drop, ◌==◌, nat_le, slice_index}
+use Rattle.std.specs.Prelude.{ℕ, ◌-◌, ◌*◌, Bool, cond, ◌&&◌, ◌||◌, List, [], ◌∷◌, length, drop, Ok, Err, Result, ◌==◌, nat_le, slice_index}
 use Rattle.questions.specs.Ask.{Question, ask}
 use Rattle.terrain.specs.Format.{Format, edition1, edition2, part}
 use Rattle.terrain.specs.Zeros.{all_zero}
@@ -8,6 +8,7 @@ use Rattle.terrain.specs.declared.refusal.Refusal.TheVariants.{TooShort, Signatu
 use Rattle.terrain.specs.declared.trailer.EditionName.{EditionName}
 use Rattle.terrain.specs.declared.trailer.EditionName.TheVariants.{First, Second}
 use Rattle.terrain.specs.declared.trailer.Trailer.{Trailer}
+use Rattle.terrain.specs.declared.trailer.UnknownEdition.{UnknownEdition}
 
 -- The last 12 bytes.
 abbrev pub tail_of : List ℕ → List ℕ
@@ -18,7 +19,20 @@ abbrev pub signed : List ℕ → Bool
 signed bytes =
     (slice_index bytes 0 == 70) && (slice_index bytes 1 == 84 && ((slice_index bytes 2 == edition1.digit || slice_index bytes 2 == edition2.digit) && slice_index bytes 3 == 10))
 
--- The edition that the digit names.
+-- The edition that the digit of a signature names.
+abbrev pub name_by : List ℕ → EditionName
+name_by bytes = cond (slice_index bytes 2 == edition1.digit) First Second
+
+-- The edition that a byte names as its digit, or none.
+abbrev pub edition_in : ℕ → Result EditionName UnknownEdition
+edition_in digit = cond (digit == edition1.digit) (Ok First) (cond (digit == edition2.digit) (Ok Second) (Err (record { 0 = digit })))
+
+-- The number of an edition.
+abbrev pub edition_number : EditionName → ℕ
+edition_number First = 1
+edition_number Second = 2
+
+-- The edition that the trailer names.
 abbrev pub name_of : List ℕ → EditionName
 name_of tail = cond (slice_index tail 10 == edition1.digit) First Second
 

@@ -1,9 +1,10 @@
 // Where a reader stands, and a guard that puts it back.
-ghost use Rattle.std.specs.Prelude.{◌≡◌, ◌+◌, ◌≤◌, length};
-ghost use Rattle.terrain.specs.Format.{part};
+ghost use Rattle.std.specs.Option.{option_map};
+ghost use Rattle.std.specs.Prelude.{◌≡◌};
+ghost use Rattle.terrain.specs.Format.{last_of};
 
 /// The byte at which a reader stands.
-#[derive(Clone, Copy)]
+#[derive(Clone, Copy, Debug, PartialEq, Eq)]
 pub struct Place {
     pub at: usize,
 }
@@ -24,16 +25,15 @@ impl<'p> Look<'p> {
         Look { place, start }
     }
 
-    // Moves the place to `at` and past the `count` bytes from there, which it hands out.
-    pub(crate) fn part<'f>(&mut self, file: &'f [u8], at: usize, count: usize) -> &'f [u8]
-        requires { at + count ≤ length file.now }
-        ensures bytes { result.now ≡ part file.now at count }
-        ensures moved { self.new.place.now.at ≡ at + count }
+    // Moves the place past the last `N` bytes of the file, and hands them out, if there are so many.
+    pub(crate) fn last<'f, const N: usize>(&mut self, file: &'f [u8]) -> Option<&'f [u8; N]>
+        ensures bytes { option_map (λ t. t.now) result ≡ last_of N file.now }
         ensures start { self.new.start ≡ self.old.start }
         ensures lent { self.new.place.ghost_name ≡ self.old.place.ghost_name }
     {
-        self.place.at = at + count;
-        &file[at..at + count]
+        let bytes = file.last_chunk::<N>()?;
+        self.place.at = file.len();
+        Some(bytes)
     }
 }
 

@@ -1,7 +1,7 @@
 // A reader over a terrain file as it was handed in: the note, then the records, and a look at the trailer.
 ghost use Rattle.std.specs.Option.{option_map};
 ghost use Rattle.questions.specs.Ask.{first_no, verdict};
-ghost use Rattle.terrain.specs.Format.{format};
+ghost use Rattle.terrain.specs.Format.{said_by};
 ghost use Rattle.terrain.specs.Steps.{Stepped, next_record, place_after};
 ghost use Rattle.terrain.specs.Trailer.{tail_of, trailer_of, trailer_questions};
 ghost use Rattle.std.specs.Prelude.{◌≡◌, length};
@@ -9,7 +9,7 @@ ghost use Rattle.std.specs.Prelude.{◌≡◌, length};
 use crate::place::{Look, Place};
 use crate::record::Record;
 use crate::refusal::Refusal;
-use crate::trailer::{TRAILER_LEN, Trailer};
+use crate::trailer::Trailer;
 use byte_order::Edition;
 
 /// The lent bytes of a file, and the place up to which they are read.
@@ -45,44 +45,33 @@ impl<'a> Reader<'a> {
         ensures unmoved { self.new ≡ self.old }
     {
         let file = self.file;
-        let total = file.len();
+        let length = file.len();
         let mut look = Look::new(&mut self.place);
-        if total < TRAILER_LEN {
-            return Err(Refusal::TooShort { length: total });
+        match look.last(file) {
+            Some(tail) => Trailer::read(tail, length),
+            None => Err(Refusal::TooShort { length }),
         }
-        let tail = look.part(file, total - TRAILER_LEN, TRAILER_LEN);
-        Trailer::read(tail, total)
     }
 
-    // The next `count` bytes, if so many are left.
-    fn step(&mut self, count: usize) -> Option<&'a [u8]>
+    /// The next `count` bytes, as that part of the file, if so many are left: the note, or a record.
+    pub fn bytes(&mut self, count: usize) -> Option<&'a [u8]>
         ensures { Stepped self.old self.new count (option_map (λ x. x.now) result) }
     {
         let at = self.place.at;
-        if at > self.file.len() || count > self.file.len() - at {
-            return None;
-        }
-        self.place.at = at + count;
-        Some(&self.file[at..at + count])
-    }
-
-    /// The note, as that part of the file: the next `count` bytes, if so many are left.
-    pub fn note(&mut self, count: usize) -> Option<&'a [u8]>
-        ensures { Stepped self.old self.new count (option_map (λ x. x.now) result) }
-    {
-        self.step(count)
+        let end = at.checked_add(count)?;
+        let bytes = self.file.get(at..end)?;
+        self.place.at = end;
+        Some(bytes)
     }
 
     /// What the next record says, or the first of its questions answered no; none where no whole record is left.
     pub fn record<E: Edition>(&mut self) -> Option<Result<Record, Refusal>>
-        ensures answer { result ≡ next_record (format E.Edition.digit E.Edition.record_len E.ByteOrder.number) self.old.file.now self.old.place.at }
-        ensures place { self.new.place.at ≡ place_after self.old.file.now self.old.place.at E.Edition.record_len }
+        ensures answer { result ≡ next_record (said_by E.Edition) self.old.file.now self.old.place.at }
+        ensures place { self.new.place.at ≡ place_after self.old.file.now self.old.place.at E.RECORD_LEN }
         ensures file { self.new.file ≡ self.old.file }
     {
         let at = self.place.at;
-        match self.step(E::record_bytes()) {
-            Some(bytes) => Some(Record::read::<E>(bytes, at)),
-            None => None,
-        }
+        let bytes = self.bytes(E::RECORD_LEN)?;
+        Some(Record::read::<E>(bytes, at))
     }
 }

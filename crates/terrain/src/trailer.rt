@@ -1,11 +1,12 @@
 // The trailer of a terrain file, read from its last 12 bytes.
-ghost use Rattle.std.specs.Prelude.{◌≡◌, ◌≤◌, length, if◌then◌else◌, Some, None};
+ghost use Rattle.std.specs.Prelude.{◌≡◌, ◌≤◌, if◌then◌else◌, Some, None, decimal};
 ghost use Rattle.questions.specs.Ask.{first_no, verdict};
-ghost use Rattle.terrain.specs.Format.{format, part};
-ghost use Rattle.terrain.specs.Trailer.{count_questions, name_of, signed, trailer_as, trailer_of, trailer_questions};
+ghost use Rattle.terrain.specs.Format.{said_by};
+ghost use Rattle.terrain.specs.Trailer.{count_questions, edition_in, edition_number, name_by, signed, trailer_as, trailer_of, trailer_questions};
 
 use crate::refusal::Refusal;
-use byte_order::{Edition, Edition1, Edition2};
+use byte_order::{ByteOrder, Edition, Edition1, Edition2};
+use std::fmt;
 
 /// How many bytes a trailer has.
 pub const TRAILER_LEN: usize = 12;
@@ -17,14 +18,42 @@ pub const MOST_RECORDS: u16 = 1023;
 pub const NOTE_LIMIT: usize = 1024;
 
 /// The edition that a file names by its digit.
-#[derive(Clone, Copy)]
+#[derive(Clone, Copy, Debug, PartialEq, Eq)]
 pub enum EditionName {
-    First,
-    Second,
+    First = 1,
+    Second = 2,
+}
+
+/// A byte that is the digit of no edition.
+#[derive(Clone, Copy, Debug, PartialEq, Eq)]
+pub struct UnknownEdition(pub u8);
+
+impl TryFrom<u8> for EditionName {
+    type Error = UnknownEdition;
+
+    ghost try_from_gives = { λ digit r. r ≡ edition_in digit };
+
+    fn try_from(digit: u8) -> Result<EditionName, UnknownEdition> {
+        match digit {
+            Edition1::DIGIT => Ok(EditionName::First),
+            Edition2::DIGIT => Ok(EditionName::Second),
+            _ => Err(UnknownEdition(digit)),
+        }
+    }
+}
+
+/// An edition is told by its number.
+impl fmt::Display for EditionName {
+    ghost output = { λ name. Some (decimal (edition_number name)) };
+
+    fn fmt<W: fmt::Write>(&self, f: &mut fmt::Formatter<W>) -> fmt::Result {
+        let number = *self as u8;
+        write!(f, "{number}")
+    }
 }
 
 /// What a trailer says: the edition, how many records, and how many bytes of note stand before them.
-#[derive(Clone, Copy)]
+#[derive(Clone, Copy, Debug, PartialEq, Eq)]
 pub struct Trailer {
     pub edition: EditionName,
     pub count: u16,
@@ -32,50 +61,43 @@ pub struct Trailer {
 }
 
 // The edition that the last four bytes name.
-fn edition_of(tail: &[u8]) -> Option<EditionName>
-    requires { length tail.now ≡ 12 }
-    ensures { result ≡ (if signed (part tail.now 8 4) then Some (name_of tail.now) else None) }
+fn edition_of(signature: [u8; 4]) -> Option<EditionName>
+    ensures { result ≡ (if signed signature then Some (name_by signature) else None) }
 {
-    let [.., f, t, digit, lf] = tail else {
-        unreachable()
-    };
-    if *f != b'F' || *t != b'T' || *lf != b'\n' {
+    let [f, t, digit, lf] = signature;
+    if [f, t, lf] != [b'F', b'T', b'\n'] {
         return None;
     }
-    if *digit == Edition1::DIGIT {
-        return Some(EditionName::First);
-    }
-    if *digit == Edition2::DIGIT {
-        return Some(EditionName::Second);
-    }
-    None
+    EditionName::try_from(digit).ok()
 }
 
 // Questions 4 to 6, by one text for every edition.
-fn numbers<E: Edition>(edition: EditionName, tail: &[u8], total: usize) -> Result<Trailer, Refusal>
-    requires whole { length tail.now ≡ 12 }
-    requires within { 12 ≤ total }
-    ensures { result ≡ verdict (first_no (count_questions (format E.Edition.digit E.Edition.record_len E.ByteOrder.number) total tail.now)) (trailer_as edition (format E.Edition.digit E.Edition.record_len E.ByteOrder.number) total tail.now) }
+fn numbers<E: Edition>(
+    edition: EditionName,
+    tail: &[u8; TRAILER_LEN],
+    total: usize,
+) -> Result<Trailer, Refusal>
+    requires { 12 ≤ total }
+    ensures { result ≡ verdict (first_no (count_questions (said_by E.Edition) total tail.now)) (trailer_as edition (said_by E.Edition) total tail.now) }
 {
-    let [d0, d1, d2, d3, c0, c1, ..] = tail else {
-        unreachable()
-    };
-    let count = E::read_u16([*c0, *c1]);
-    if count < 1 || count > MOST_RECORDS {
+    let [d0, d1, d2, d3, c0, c1, ..] = *tail;
+    let before = total - TRAILER_LEN;
+    let count: u16 = E::read([c0, c1]);
+    if !(1..=MOST_RECORDS).contains(&count) {
         return Err(Refusal::Count {
             count,
             at: total - 8,
         });
     }
-    let distance = E::read_u32([*d0, *d1, *d2, *d3]);
+    let distance: u32 = E::read([d0, d1, d2, d3]);
     let back = distance as usize;
-    if back != count as usize * E::record_bytes() || back > total - TRAILER_LEN {
+    if back != usize::from(count) * E::RECORD_LEN || back > before {
         return Err(Refusal::Distance {
             distance,
-            at: total - TRAILER_LEN,
+            at: before,
         });
     }
-    let note = total - TRAILER_LEN - back;
+    let note = before - back;
     if note > NOTE_LIMIT {
         return Err(Refusal::NoteLength { length: note });
     }
@@ -88,23 +110,20 @@ fn numbers<E: Edition>(edition: EditionName, tail: &[u8], total: usize) -> Resul
 
 impl Trailer {
     // The trailer that the last 12 of `total` bytes say, or the first of its questions answered no.
-    pub(crate) fn read(tail: &[u8], total: usize) -> Result<Trailer, Refusal>
-        requires whole { length tail.now ≡ 12 }
-        requires within { 12 ≤ total }
+    pub(crate) fn read(tail: &[u8; TRAILER_LEN], total: usize) -> Result<Trailer, Refusal>
+        requires { 12 ≤ total }
         ensures { result ≡ verdict (first_no (trailer_questions total tail.now)) (trailer_of total tail.now) }
     {
-        let [.., six, seven, f, t, digit, lf] = tail else {
-            unreachable()
-        };
-        let Some(edition) = edition_of(tail) else {
+        let [.., six, seven, f, t, digit, lf] = *tail;
+        let Some(edition) = edition_of([f, t, digit, lf]) else {
             return Err(Refusal::Signature {
-                found: [*f, *t, *digit, *lf],
+                found: [f, t, digit, lf],
                 at: total - 4,
             });
         };
-        if *six != 0 || *seven != 0 {
+        if [six, seven] != [0, 0] {
             return Err(Refusal::TrailerZeros {
-                found: [*six, *seven],
+                found: [six, seven],
                 at: total - 6,
             });
         }
