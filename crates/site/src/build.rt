@@ -1,7 +1,7 @@
 // The table that a file's records spell, by one text for every edition.
 ghost use Rattle.std.specs.Prelude.{◌≡◌, ◌-◌, length};
 ghost use Rattle.site.specs.Fill.{Fits, Spelled};
-ghost use Rattle.terrain.specs.Format.{format};
+ghost use Rattle.terrain.specs.Format.{said_by};
 ghost use Rattle.terrain.specs.Trailer.{note_length, tail_of};
 
 use crate::fill::fill;
@@ -18,13 +18,13 @@ pub(crate) fn build<E: Edition>(
     trailer: &Trailer,
     end: usize,
 ) -> Result<Table, Refusal>
-    requires fits { Fits (format E.Edition.digit E.Edition.record_len E.ByteOrder.number) trailer.now.count reader.old.file.now }
-    requires note { trailer.now.note ≡ note_length (format E.Edition.digit E.Edition.record_len E.ByteOrder.number) (length reader.old.file.now) (tail_of reader.old.file.now) }
+    requires fits { Fits (said_by E.Edition) trailer.now.count reader.old.file.now }
+    requires note { trailer.now.note ≡ note_length (said_by E.Edition) (length reader.old.file.now) (tail_of reader.old.file.now) }
     requires start { reader.old.place.at ≡ 0 }
     requires close { end ≡ length reader.old.file.now - 12 }
-    ensures { Spelled (format E.Edition.digit E.Edition.record_len E.ByteOrder.number) trailer.now.count reader.old.file.now result }
+    ensures { Spelled (said_by E.Edition) trailer.now.count reader.old.file.now result }
 {
-    let _ = reader.note(trailer.note);
+    let _ = reader.bytes(trailer.note);
     let mut slots = [Summary {
         first: 0,
         outlets: 0,

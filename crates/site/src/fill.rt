@@ -1,7 +1,7 @@
 // Going through the records of a file, by one text for every edition.
 ghost use Rattle.std.specs.Prelude.{◌≡◌, ◌+◌, ◌<◌};
 ghost use Rattle.site.specs.Fill.{Filled, Fits, Reached};
-ghost use Rattle.terrain.specs.Format.{format};
+ghost use Rattle.terrain.specs.Format.{said_by};
 
 use crate::grow::grow;
 use crate::node::Summary;
@@ -18,10 +18,10 @@ fn take_record<E: Edition>(
     i: u16,
     count: u16,
 ) -> Result<(), Refusal>
-    requires fits { Fits (format E.Edition.digit E.Edition.record_len E.ByteOrder.number) count reader.old.file.now }
+    requires fits { Fits (said_by E.Edition) count reader.old.file.now }
     requires more { i < count }
-    requires reached { Reached (format E.Edition.digit E.Edition.record_len E.ByteOrder.number) count i reader.old table.old waiting.old }
-    ensures done { Filled (format E.Edition.digit E.Edition.record_len E.ByteOrder.number) count (i + 1) reader.old.file.now reader.new table.new waiting.new result }
+    requires reached { Reached (said_by E.Edition) count i reader.old table.old waiting.old }
+    ensures done { Filled (said_by E.Edition) count (i + 1) reader.old.file.now reader.new table.new waiting.new result }
     ensures file { reader.new.file ≡ reader.old.file }
 {
     let at = reader.place();
@@ -39,9 +39,9 @@ pub(crate) fn fill<E: Edition>(
     waiting: &mut Stack<'_, Summary>,
     count: u16,
 ) -> Result<(), Refusal>
-    requires fits { Fits (format E.Edition.digit E.Edition.record_len E.ByteOrder.number) count reader.old.file.now }
-    requires start { Reached (format E.Edition.digit E.Edition.record_len E.ByteOrder.number) count 0 reader.old table.old waiting.old }
-    ensures done { Filled (format E.Edition.digit E.Edition.record_len E.ByteOrder.number) count count reader.old.file.now reader.new table.new waiting.new result }
+    requires fits { Fits (said_by E.Edition) count reader.old.file.now }
+    requires start { Reached (said_by E.Edition) count 0 reader.old table.old waiting.old }
+    ensures done { Filled (said_by E.Edition) count count reader.old.file.now reader.new table.new waiting.new result }
     ensures file { reader.new.file ≡ reader.old.file }
 {
     for i in 0..count {

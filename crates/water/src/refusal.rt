@@ -1,15 +1,14 @@
 // Why a call on a site's water is refused: one case for each question, with what was found.
 ghost use Rattle.water.specs.Case.{case_of};
-ghost use Rattle.std.specs.Prelude.{◌≡◌};
 
 use crate::units::{Leaf, Litres};
-use questions::Layer;
+use questions::{Layer, Refused, Told};
 
 /// Accepted rain is at most 2^60 litres.
 pub const RAIN_LIMIT: u64 = 1 << 60;
 
 /// The question that was answered no.
-#[derive(Clone, Copy)]
+#[derive(Clone, Copy, Debug, PartialEq, Eq)]
 pub enum Refusal {
     /// A leaf?
     NoLeaf { leaf: Leaf },
@@ -17,32 +16,14 @@ pub enum Refusal {
     RainLimit { litres: Litres },
 }
 
-impl Refusal {
-    /// The number of the question.
-    pub fn number(&self) -> u32
-        ensures { result ≡ (case_of self.now).number }
-    {
-        match self {
-            Refusal::NoLeaf { .. } => 21,
-            Refusal::RainLimit { .. } => 22,
-        }
-    }
+impl Refused for Refusal {
+    ghost case = { case_of };
 
-    /// The layer that asks the question.
-    pub fn layer(&self) -> Layer
-        ensures { result ≡ (case_of self.now).layer }
-    {
+    // Each question is about the call as a whole.
+    fn told(&self) -> Told {
         match self {
-            Refusal::NoLeaf { .. } | Refusal::RainLimit { .. } => Layer::Water,
-        }
-    }
-
-    /// What the question is about, 0 where it is about the call as a whole.
-    pub fn place(&self) -> usize
-        ensures { result ≡ (case_of self.now).place }
-    {
-        match self {
-            Refusal::NoLeaf { .. } | Refusal::RainLimit { .. } => 0,
+            Refusal::NoLeaf { .. } => Told::new(21, Layer::Water, 0),
+            Refusal::RainLimit { .. } => Told::new(22, Layer::Water, 0),
         }
     }
 }

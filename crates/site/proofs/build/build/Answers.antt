@@ -12,22 +12,22 @@ use Rattle.site.proofs.build.build.Goals as goal
 
 pub fill-requires : goal.fill-requires
 fill-requires g c =
-    let e : Format = format g.E.Edition.digit g.E.Edition.record_len g.E.ByteOrder.number in
+    let e : Format = format g.E.Edition.DIGIT g.E.Edition.RECORD_LEN g.E.ByteOrder.number in
     let file = c.args.reader.now.file.now in
-    let fe = ap (λ x. x.now) c.note.ensures.file in
+    let fe = ap (λ x. x.now) c.bytes.ensures.file in
     record {
       fits = subst (λ (f : List ℕ). Fits e c.args.trailer.now.count f) (sym fe) c.requires.fits;
       start =
-          starts e c.args.trailer.now.count c.args.trailer.now.note file c.note.new.self c.unused-table.result c.new-waiting.result
-          c.requires.fits c.requires.note fe (c.note.ensures.place ∙ ap (λ (k : ℕ). place_after file k c.args.trailer.now.note) c.requires.start)
+          starts e c.args.trailer.now.count c.args.trailer.now.note file c.bytes.new.self c.unused-table.result c.new-waiting.result
+          c.requires.fits c.requires.note fe (c.bytes.ensures.place ∙ ap (λ (k : ℕ). place_after file k c.args.trailer.now.note) c.requires.start)
           c.unused-table.ensures.nodes c.unused-table.ensures.count c.new-waiting.ensures.items c.new-waiting.ensures.room;
     }
 
 pub returns-in_err-one_tree : goal.returns-in_err-one_tree
 returns-in_err-one_tree g c =
-    let e : Format = format g.E.Edition.digit g.E.Edition.record_len g.E.ByteOrder.number in
+    let e : Format = format g.E.Edition.DIGIT g.E.Edition.RECORD_LEN g.E.ByteOrder.number in
     let h = c.in_ok-fill.ensures in
-    let fe = ap (λ x. x.now) (h.file ∙ c.note.ensures.file) in
+    let fe = ap (λ x. x.now) (h.file ∙ c.bytes.ensures.file) in
     let p = err_from_is_err_and c.from_residual-in_err-one_tree.result c.from_residual-in_err-one_tree.ensures.1 in
     let s = stacked c.fill.new.waiting in
     same_file e c.args.trailer.now.count c.args.reader.now.file.now c.fill.new.reader.file.now _ fe
@@ -37,9 +37,9 @@ returns-in_err-one_tree g c =
 
 pub returns : goal.returns
 returns g c =
-    let e : Format = format g.E.Edition.digit g.E.Edition.record_len g.E.ByteOrder.number in
+    let e : Format = format g.E.Edition.DIGIT g.E.Edition.RECORD_LEN g.E.ByteOrder.number in
     let h = c.in_ok-fill.ensures in
-    let fe = ap (λ x. x.now) (h.file ∙ c.note.ensures.file) in
+    let fe = ap (λ x. x.now) (h.file ∙ c.bytes.ensures.file) in
     let s = stacked c.fill.new.waiting in
     same_file e c.args.trailer.now.count c.args.reader.now.file.now c.fill.new.reader.file.now _ fe
     (ended_ok e c.args.trailer.now.count c.args.end c.fill.new.reader.file.now s c.fill.new.table

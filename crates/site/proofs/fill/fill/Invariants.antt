@@ -5,5 +5,5 @@ use Rattle.site.proofs.fill.fill.Given as goal
 
 abbrev pub invariant-loop-i : goal.invariant-loop-i
 invariant-loop-i g l =
-    Reached (format g.E.Edition.digit g.E.Edition.record_len g.E.ByteOrder.number) l.count l.i l.reader l.table l.waiting
+    Reached (format g.E.Edition.DIGIT g.E.Edition.RECORD_LEN g.E.ByteOrder.number) l.count l.i l.reader l.table l.waiting
     × (l.reader.file ≡ l.initial.reader.file)

@@ -11,7 +11,7 @@ use Rattle.site.proofs.fill.take_record.Goals as goal
 
 pub unreachable-requires : goal.unreachable-requires
 unreachable-requires g c =
-    let e : Format = format g.E.Edition.digit g.E.Edition.record_len g.E.ByteOrder.number in
+    let e : Format = format g.E.Edition.DIGIT g.E.Edition.RECORD_LEN g.E.ByteOrder.number in
     let t = next_there e c.args.count c.args.i c.args.reader.now.place.at c.args.reader.now.file.now c.requires.fits c.requires.more c.requires.reached.place in
     let h = c.in_default.ensures.answer in
     let z : ◌≡◌ {A = ℕ} 0 1 = cc in
@@ -19,7 +19,7 @@ unreachable-requires g c =
 
 pub returns-in_err-said : goal.returns-in_err-said
 returns-in_err-said g c =
-    let e : Format = format g.E.Edition.digit g.E.Edition.record_len g.E.ByteOrder.number in
+    let e : Format = format g.E.Edition.DIGIT g.E.Edition.RECORD_LEN g.E.ByteOrder.number in
     let p = err_from_is_err_and c.from_residual.result c.from_residual.ensures.1 in
     let x = refused_record e c.args.count c.args.i c.args.reader.now.place.at c.args.reader.now.file.now c.in-Some.step c.in_err-said.field-0.0
     c.requires.fits c.requires.more c.requires.reached.place c.requires.reached.asked c.in-Some.ensures.answer c.in_err-said.was in
@@ -27,7 +27,7 @@ returns-in_err-said g c =
 
 pub grow-requires : goal.grow-requires
 grow-requires g c =
-    let e : Format = format g.E.Edition.digit g.E.Edition.record_len g.E.ByteOrder.number in
+    let e : Format = format g.E.Edition.DIGIT g.E.Edition.RECORD_LEN g.E.ByteOrder.number in
     let r = c.requires.reached in
     let l : length (stacked c.args.waiting.now) ≤ c.args.i =
     omega (arith, ap length r.built.kept, length-map (waiting e c.args.reader.now.file.now c.args.i) summary_of, few_wait _ _ r.built.lined, r.count) in
@@ -37,7 +37,7 @@ grow-requires g c =
 
 pub returns : goal.returns
 returns g c =
-    let e : Format = format g.E.Edition.digit g.E.Edition.record_len g.E.ByteOrder.number in
+    let e : Format = format g.E.Edition.DIGIT g.E.Edition.RECORD_LEN g.E.ByteOrder.number in
     let r = c.requires.reached in
     let h = c.in-Some.ensures in
     let said = read_record e c.args.count c.args.i c.args.reader.now.place.at c.args.reader.now.file.now c.in-Some.step c.in_ok-said.said
