@@ -1,3 +1,2 @@
-mod Said
 mod Steps
 mod Told

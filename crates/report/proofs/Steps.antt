@@ -1,15 +1,23 @@
--- One more element of a list as text.
-use Rattle.std.proofs.Common.{◌≡◌, ℕ, ◌+◌, ◌<◌, List, [], ◌∷◌, ◌++◌, length, get_or, drop, decimal, sym, ap, ◌∙◌, append-nil}
-use Rattle.std.proofs.lemmas.List.{at_drop_more}
-use Rattle.report.specs.Lines.{numbers}
+-- One more record as text.
+use Rattle.std.proofs.Common.{◌≡◌, ℕ, ◌+◌, ◌<◌, List, [], ◌∷◌, ◌++◌, length, get_or, take, sym, ap, ◌∙◌, append_assoc, append-nil, arith}
+use Rattle.std.proofs.lemmas.List.{take_more, length-take-le}
 use Rattle.report.specs.SiteLines.{node_line, node_lines}
 use Rattle.site.specs.declared.node.Node.{Node}
 
--- The numbers from an index on: that one, and the numbers after it.
-pub numbers_step : (ns : List ℕ) (i : ℕ) → i < length ns → numbers (drop i ns) ≡ numbers (get_or ns i 0 ∷ []) ++ numbers (drop (i + 1) ns)
-numbers_step ns i h =
-    at_drop_more numbers ns i 0 h ∙ ap (λ t. 32 ∷ (t ++ numbers (drop (i + 1) ns))) (sym (append-nil (decimal (get_or ns i 0))))
+-- The lines of some records and then of others.
+lines_both : (i : ℕ) (ns ms : List Node) → node_lines i (ns ++ ms) ≡ node_lines i ns ++ node_lines (i + length ns) ms
+lines_both i [] ms = let e : i ≡ i + 0 = omega arith in ap (λ k. node_lines k ms) e
+lines_both i (n ∷ ns) ms =
+    let e : i + 1 + length ns ≡ i + length (n ∷ ns) = omega arith in
+    ap (λ t. node_line i n ++ t) (lines_both (i + 1) ns ms)
+    ∙ ap (λ k. node_line i n ++ (node_lines (i + 1) ns ++ node_lines k ms)) e
+    ∙ sym (append_assoc (node_line i n) (node_lines (i + 1) ns) (node_lines (i + length (n ∷ ns)) ms))
 
--- The lines from an index on: that one, and the lines after it.
-pub lines_step : (ns : List Node) (i : ℕ) (d : Node) → i < length ns → node_lines i (drop i ns) ≡ node_line i (get_or ns i d) ++ node_lines (i + 1) (drop (i + 1) ns)
-lines_step ns i d h = at_drop_more (node_lines i) ns i d h
+-- The lines of the first records, and one more.
+pub lines_more : (ns : List Node) (i : ℕ) (d : Node) → i < length ns → node_lines 0 (take i ns) ++ node_line i (get_or ns i d) ≡ node_lines 0 (take (i + 1) ns)
+lines_more ns i d h =
+    let w : i ≡ 0 + length (take i ns) = omega (arith, length-take-le i ns (omega arith)) in
+    ap (λ t. node_lines 0 (take i ns) ++ t) (sym (append-nil (node_line i (get_or ns i d))))
+    ∙ ap (λ k. node_lines 0 (take i ns) ++ node_lines k (get_or ns i d ∷ [])) w
+    ∙ sym (lines_both 0 (take i ns) (get_or ns i d ∷ []))
+    ∙ ap (node_lines 0) (sym (take_more ns i d h))

@@ -1,4 +1,3 @@
 pub mod FileText
-pub mod Lines
 pub mod RefusalLines
 pub mod SiteLines

@@ -1,29 +1,10 @@
 -- The text of a refusal.
 use Rattle.std.specs.Prelude.{ℕ, List, [], ◌∷◌, ◌++◌, codes, decimal}
 use Rattle.questions.specs.Lines.{line}
-use Rattle.report.specs.Lines.{numbers}
+use Rattle.terrain.specs.Words.{numbers, words_of}
 use Rattle.questions.specs.Case.{Case, layer_name}
 use Rattle.terrain.specs.Case.{case_of}
 use Rattle.terrain.specs.declared.refusal.Refusal.{Refusal}
-use Rattle.terrain.specs.declared.refusal.Refusal.TheVariants.{TooShort, Signature, TrailerZeros, Count, Distance, NoteLength, Kind, RecordZeros, Volume, Waiting, Landings, OpenVolume, Subtrees, Outlets}
-
--- The question that was answered no, in words.
-abbrev pub words_of : Refusal → List ℕ
-words_of (TooShort length) = codes "at least 12 bytes?"
-words_of (Signature found at) = codes "last four bytes F, T, 1 or 2, 0A?"
-words_of (TrailerZeros found at) = codes "trailer bytes 6 and 7 zero?"
-words_of (Count count at) = codes "count 1 to 1023?"
-words_of (Distance distance at) =
-    codes "distance equal to count times record length, and at most the bytes before the trailer?"
-words_of (NoteLength length) = codes "note at most 1024 bytes?"
-words_of (Kind kind at) = codes "kind 1 to 3?"
-words_of (RecordZeros found at) = codes "record bytes 1, 6 and 7 zero?"
-words_of (Volume volume at) = codes "volume at most 1099511627775, and 0 for the outlet?"
-words_of (Waiting waiting at) = codes "two subtrees waiting for the merge?"
-words_of (Landings left right at) = codes "landings 0 for a leaf, a leaf of the left and of the right side for a merge?"
-words_of (OpenVolume volume at) = codes "volume 0 for an open merge?"
-words_of (Subtrees waiting at) = codes "one subtree after the last record?"
-words_of (Outlets outlets at) = codes "one outlet?"
 
 -- The first line: the question's number, the layer that asks it, and the place.
 abbrev pub place_line : Case → List ℕ

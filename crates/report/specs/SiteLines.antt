@@ -2,14 +2,9 @@
 use Rattle.std.specs.Prelude.{ℕ, ◌+◌, List, [], ◌∷◌, ◌++◌, length, codes, decimal}
 use Rattle.questions.specs.Lines.{line}
 use Rattle.terrain.specs.declared.trailer.EditionName.{EditionName}
-use Rattle.terrain.specs.declared.trailer.EditionName.TheVariants.{First, Second}
+use Rattle.terrain.specs.Trailer.{edition_number}
 use Rattle.site.specs.declared.node.Node.{Node}
 use Rattle.site.specs.declared.node.Node.TheVariants.{Unused, Basin, Outlet, Merge}
-
--- The number of an edition.
-abbrev pub edition_number : EditionName → ℕ
-edition_number First = 1
-edition_number Second = 2
 
 -- The line on the file: its edition, the bytes of its note, and how many records it has.
 abbrev pub first_line : ℕ → ℕ → ℕ → List ℕ

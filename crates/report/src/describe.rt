@@ -2,8 +2,8 @@
 ghost use Rattle.report.specs.FileText.{file_text};
 ghost use Rattle.std.specs.Prelude.{◌≡◌, IfOk, string_bytes};
 
-use crate::refusal_lines::refusal_text;
-use crate::site_lines::site_text;
+use crate::refusal_lines::RefusalLines;
+use crate::site_lines::SiteLines;
 use site::Site;
 use std::alloc::{AllocError, Global};
 use terrain::Reader;
@@ -14,18 +14,18 @@ pub fn file_text(heap: Global, file: &[u8]) -> Result<String, AllocError>
 {
     let trailer = match Reader::new(file).trailer() {
         Ok(trailer) => trailer,
-        Err(refusal) => return refusal_text(heap, &refusal),
+        Err(refusal) => return RefusalLines(refusal).to_string(heap),
     };
     let mut site = Site::fresh();
     match site.load(file) {
-        Err(refusal) => refusal_text(heap, &refusal),
-        Ok(()) => site_text(
-            heap,
-            trailer.edition,
-            trailer.note,
-            site.records(),
-            site.volume(),
-            site.height(),
-        ),
+        Err(refusal) => RefusalLines(refusal).to_string(heap),
+        Ok(()) => SiteLines {
+            edition: trailer.edition,
+            note: trailer.note,
+            nodes: site.records(),
+            volume: site.volume(),
+            height: site.height(),
+        }
+        .to_string(heap),
     }
 }

@@ -3,8 +3,6 @@
 
 // What there is to tell of a file.
 mod describe;
-// Numbers after a space each.
-mod numbers;
 // What a refusal says.
 mod refusal_lines;
 // What a site says.

@@ -1,77 +1,80 @@
 // The text of a site: a first line on its file, a line for each record, and a last line on the whole.
-ghost use Rattle.report.specs.SiteLines.{edition_number, first_line, last_line, node_line, node_lines, site_text};
-ghost use Rattle.std.specs.Prelude.{◌≡◌, ◌++◌, IfOk, string_bytes, OnOk};
+ghost use Rattle.report.specs.SiteLines.{node_line, node_lines, site_text};
+ghost use Rattle.std.specs.Prelude.{Some};
 
 use site::Node;
-use std::alloc::{AllocError, Global};
+use std::fmt;
 use terrain::EditionName;
 
-// The number of an edition.
-fn edition_number(edition: EditionName) -> u8
-    ensures { result ≡ edition_number edition }
-{
-    match edition {
-        EditionName::First => 1,
-        EditionName::Second => 2,
-    }
-}
-
-// The line on the file: its edition, the bytes of its note, and how many records it has.
-fn first_line(heap: Global, edition: u8, note: usize, count: usize) -> Result<String, AllocError>
-    ensures { IfOk result (λ s. string_bytes s ≡ first_line edition note count) }
-{
-    format!(in heap; "ok edition {edition} note {note} records {count}\n")
+// A record under its index.
+#[derive(Clone, Copy)]
+struct NodeLine<'a> {
+    index: usize,
+    node: &'a Node,
 }
 
 // The line on one record.
-fn node_line(heap: Global, index: usize, node: &Node) -> Result<String, AllocError>
-    ensures { IfOk result (λ s. string_bytes s ≡ node_line index node.now) }
-{
-    match node {
-        Node::Unused => format!(in heap; "{index} unused\n"),
-        Node::Basin { own, .. } => format!(in heap; "{index} basin {own}\n"),
-        Node::Outlet { .. } => format!(in heap; "{index} outlet\n"),
-        Node::Merge {
-            own,
-            left,
-            right,
-            ..
-        } => format!(in heap; "{index} merge {own} landings {left} {right}\n"),
+impl fmt::Display for NodeLine<'_> {
+    ghost output = { λ line. Some (node_line line.index line.node.now) };
+
+    fn fmt<W: fmt::Write>(&self, f: &mut fmt::Formatter<W>) -> fmt::Result {
+        let index = self.index;
+        match self.node {
+            Node::Unused => write!(f, "{index} unused\n"),
+            Node::Basin { own, .. } => write!(f, "{index} basin {own}\n"),
+            Node::Outlet { .. } => write!(f, "{index} outlet\n"),
+            Node::Merge {
+                own,
+                left,
+                right,
+                ..
+            } => write!(f, "{index} merge {own} landings {left} {right}\n"),
+        }
     }
 }
 
-// Appends a line for each record.
-fn push_nodes(heap: Global, text: &mut String, nodes: &[Node]) -> Result<(), AllocError>
-    ensures { OnOk result (string_bytes text.new ≡ string_bytes text.old ++ node_lines 0 nodes.now) }
-{
-    for (index, node) in nodes.iter().enumerate() {
-        let line = node_line(heap, index, node)?;
-        text.push_str(line.as_str())?;
+// The records of a site in order.
+#[derive(Clone, Copy)]
+struct NodeLines<'a>(&'a [Node]);
+
+// A line for each record.
+impl fmt::Display for NodeLines<'_> {
+    ghost output = { λ lines. Some (node_lines 0 lines.0.now) };
+
+    fn fmt<W: fmt::Write>(&self, f: &mut fmt::Formatter<W>) -> fmt::Result {
+        for (index, node) in self.0.iter().enumerate() {
+            NodeLine { index, node }.fmt(f)?;
+        }
+        Ok(())
     }
-    Ok(())
 }
 
-// The line on the whole site.
-fn last_line(heap: Global, volume: u64, height: u16) -> Result<String, AllocError>
-    ensures { IfOk result (λ s. string_bytes s ≡ last_line volume height) }
-{
-    format!(in heap; "volume {volume} height {height}\n")
+/// What there is to tell of an accepted file: its edition and note, and the records of its site with their total volume
+/// and the height of their tree.
+#[derive(Clone, Copy)]
+pub(crate) struct SiteLines<'a> {
+    pub(crate) edition: EditionName,
+    pub(crate) note: usize,
+    pub(crate) nodes: &'a [Node],
+    pub(crate) volume: u64,
+    pub(crate) height: u16,
 }
 
-/// All lines of a site.
-pub(crate) fn site_text(
-    heap: Global,
-    edition: EditionName,
-    note: usize,
-    nodes: &[Node],
-    volume: u64,
-    height: u16,
-) -> Result<String, AllocError>
-    ensures { IfOk result (λ s. string_bytes s ≡ site_text edition note nodes.now volume height) }
-{
-    let mut text = first_line(heap, edition_number(edition), note, nodes.len())?;
-    push_nodes(heap, &mut text, nodes)?;
-    let last = last_line(heap, volume, height)?;
-    text.push_str(last.as_str())?;
-    Ok(text)
+// All lines of a site.
+impl fmt::Display for SiteLines<'_> {
+    ghost output = { λ s. Some (site_text s.edition s.note s.nodes.now s.volume s.height) };
+
+    fn fmt<W: fmt::Write>(&self, f: &mut fmt::Formatter<W>) -> fmt::Result {
+        let SiteLines {
+            edition,
+            note,
+            nodes,
+            volume,
+            height,
+        } = *self;
+        let count = nodes.len();
+        let lines = NodeLines(nodes);
+        write!(f, "ok edition {edition} note {note} records {count}\n")?;
+        write!(f, "{lines}volume {volume} height {height}\n")
+    }
 }

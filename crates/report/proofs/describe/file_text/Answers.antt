@@ -14,14 +14,14 @@ returns-in-Err c =
     let file = c.args.file.now in
     let x = c.in-Err.refusal in
     let q = trailer_refuses c.new.result.file.now file x c.new.ensures.file c.in-Err.ensures.answer in
-    made_as string_bytes c.refusal_text.result (told_refused file x q) c.refusal_text.ensures
+    made_as string_bytes c.to_string.result (told_refused file x q) c.to_string.ensures.ok
 
 pub returns-in-Err-load : goal.returns-in-Err-load
 returns-in-Err-load c =
     let file = c.args.file.now in
     let x = c.in-Err-load.refusal in
     let q = verdict_err (first_no (questions file)) x tt c.in-Err-load.ensures.answer in
-    made_as string_bytes c.refusal_text-in-Err-load.result (told_refused file x q) c.refusal_text-in-Err-load.ensures
+    made_as string_bytes c.to_string-in-Err-load.result (told_refused file x q) c.to_string-in-Err-load.ensures.ok
 
 pub returns-in-Ok-load : goal.returns-in-Ok-load
 returns-in-Ok-load c =
@@ -32,4 +32,4 @@ returns-in-Ok-load c =
     let tree = tree_in file in
     let e = site_told file c.in-Ok.trailer c.records.result.now c.volume.result c.height.result t
     (c.records.ensures (untouched tree) l) (c.volume.ensures (untouched tree) l) (c.height.ensures (untouched tree) l) in
-    made_as string_bytes c.site_text.result (e ∙ told_accepted file q) c.site_text.ensures
+    made_as string_bytes c.to_string-in-Ok-load.result (e ∙ told_accepted file q) c.to_string-in-Ok-load.ensures.ok
