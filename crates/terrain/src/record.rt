@@ -68,17 +68,13 @@ impl Record {
         let [kind_byte, one, l0, l1, r0, r1, six, seven, rest @ ..] = bytes else {
             unreachable!()
         };
-        let Ok(kind) = Kind::try_from(*kind_byte) else {
-            return Err(Refusal::Kind {
-                kind: *kind_byte,
-                at,
-            });
-        };
-        if *one != 0 || *six != 0 || *seven != 0 {
-            return Err(Refusal::RecordZeros {
-                found: [*one, *six, *seven],
-                at: at + 1,
-            });
+        let kind = Kind::try_from(*kind_byte).map_err(|unknown| Refusal::Kind {
+            kind: unknown.0,
+            at,
+        })?;
+        let found = [*one, *six, *seven];
+        if found != [0; 3] {
+            return Err(Refusal::RecordZeros { found, at: at + 1 });
         }
         let Some(own) = E::volume(rest) else {
             unreachable!()

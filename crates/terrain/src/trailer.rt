@@ -115,15 +115,15 @@ impl Trailer {
         ensures { result ≡ verdict (first_no (trailer_questions total tail.now)) (trailer_of total tail.now) }
     {
         let [.., six, seven, f, t, digit, lf] = *tail;
-        let Some(edition) = edition_of([f, t, digit, lf]) else {
-            return Err(Refusal::Signature {
-                found: [f, t, digit, lf],
-                at: total - 4,
-            });
-        };
-        if [six, seven] != [0, 0] {
+        let signature = [f, t, digit, lf];
+        let edition = edition_of(signature).ok_or(Refusal::Signature {
+            found: signature,
+            at: total - 4,
+        })?;
+        let zeros = [six, seven];
+        if zeros != [0; 2] {
             return Err(Refusal::TrailerZeros {
-                found: [six, seven],
+                found: zeros,
                 at: total - 6,
             });
         }
