@@ -34,7 +34,7 @@ edition_number Second = 2
 
 -- The edition that the trailer names.
 abbrev pub name_of : List ℕ → EditionName
-name_of tail = cond (slice_index tail 10 == edition1.digit) First Second
+name_of tail = name_by (part tail 8 4)
 
 -- What an edition says.
 abbrev pub format_of : EditionName → Format
