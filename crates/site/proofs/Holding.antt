@@ -17,7 +17,7 @@ used_is : (table : Table) (t : Tree) → table ≡ tabled t → take table.count
 used_is table t e =
     ap (λ (x : Table). take x.count x.nodes) e ∙ take_at (records t) (replicate (1023 - size t) Unused) (size t) (length_records t)
 
-module _ (table : Table) (a p : ℕ) (s : State) (h : Holds table a p s) where
+module _ {table : Table} {a p : ℕ} {s : State} (h : Holds table a p s) where
   pub counted : table.count ≡ size s.tree
   counted = ap (λ (x : Table). x.count) h.tree
 
@@ -29,7 +29,7 @@ module _ (table : Table) (a p : ℕ) (s : State) (h : Holds table a p s) where
   pub held_some : 0 < table.count
   held_some = omega (arith, counted, size_pos s.tree)
 
-  module _ (xs : List Node) (e : xs ≡ take table.count table.nodes) where
+  module _ {xs : List Node} (e : xs ≡ take table.count table.nodes) where
     pub used : xs ≡ records s.tree
     used = e ∙ used_is table s.tree h.tree
 

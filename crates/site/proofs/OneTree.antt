@@ -39,17 +39,18 @@ pub tree_on_table : (t : Tree) → Numbered 0 t → tree_on (table_of t) ≡ t
 unfolding tree_on
 tree_on_table t h = ap newest (table_read t h)
 
--- A table and its sums show the one state that they hold.
-pub one_state : (table : Table) (a p : ℕ) (s : State) → Holds table a p s → shown table a p ≡ s
-one_state table a p s h =
-    let t : tree_on table.nodes ≡ s.tree =
-    ap (λ (x : Table). tree_on x.nodes) h.tree ∙ tree_on_table s.tree h.stands.sound.formed.numbered in
-    ap (λ (x : Tree). record { tree = x; accepted = a; pumped = p }) t
-    ∙ ap (λ (x : ℕ). record { tree = s.tree; accepted = x; pumped = p }) h.accepted
-    ∙ ap (λ (x : ℕ). record { tree = s.tree; accepted = s.accepted; pumped = x }) h.pumped
+module _ {table : Table} {a p : ℕ} {s : State} where
+  -- A table and its sums show the one state that they hold.
+  pub one_state : Holds table a p s → shown table a p ≡ s
+  one_state h =
+      let t : tree_on table.nodes ≡ s.tree =
+      ap (λ (x : Table). tree_on x.nodes) h.tree ∙ tree_on_table s.tree h.stands.sound.formed.numbered in
+      ap (λ (x : Tree). record { tree = x; accepted = a; pumped = p }) t
+      ∙ ap (λ (x : ℕ). record { tree = s.tree; accepted = x; pumped = p }) h.accepted
+      ∙ ap (λ (x : ℕ). record { tree = s.tree; accepted = s.accepted; pumped = x }) h.pumped
 
-pub held : (table : Table) (a p : ℕ) (s : State) → Holds table a p s → Held table a p
-held table a p s h = subst (Holds table a p) (sym (one_state table a p s h)) h
+  pub held : Holds table a p s → Held table a p
+  held h = subst (Holds table a p) (sym (one_state h)) h
 
-pub held_is : (table : Table) (a p : ℕ) (s : State) → Held table a p → shown table a p ≡ s → Holds table a p s
-held_is table a p s h e = subst (Holds table a p) e h
+  pub held_is : Held table a p → shown table a p ≡ s → Holds table a p s
+  held_is h e = subst (Holds table a p) e h

@@ -1,6 +1,6 @@
 -- A site's table holds its whole tree, from the first place on.
 use Rattle.std.proofs.Common.{◌≡◌, ℕ, ◌+◌, ◌-◌, ◌^◌, ◌<◌, ◌≤◌, Bool, [], replicate, sym, refl, ap, ◌∙◌, arith}
-use Rattle.water.specs.Tree.{Tree, size, has_leaf}
+use Rattle.water.specs.Tree.{size, has_leaf}
 use Rattle.water.specs.State.{State}
 use Rattle.water.proofs.Numbers.{last_number}
 use Rattle.site.specs.Held.{Holds}
@@ -13,19 +13,19 @@ use Rattle.site.specs.declared.table.Table.{Table}
 use Rattle.site.proofs.Holding.{counted, held_few}
 use Rattle.site.proofs.Trees.{among}
 
-module _ (table : Table) (a p : ℕ) (s : State) (h : Holds table a p s) where
+module _ {table : Table} {a p : ℕ} {s : State} (h : Holds table a p s) where
   -- The leaves of the tree are found in the table.
   leaf_found : (k : ℕ) → leaf_among table.nodes k 0 table.count ≡ has_leaf k s.tree
   leaf_found k =
       among table.nodes [] (replicate (1023 - size s.tree) Unused) s.tree k 0 table.count (ap (λ (x : Table). x.nodes) h.tree) refl
-      h.stands.sound.formed.numbered (counted table a p s h ∙ omega arith) (held_few table a p s h)
+      h.stands.sound.formed.numbered (counted h ∙ omega arith) (held_few h)
 
   -- What the table says of a leaf is what the tree says.
-  pub leaf_said : (k n : ℕ) (b d : Bool) → n ≡ table.count → b ≡ leaf_among table.nodes k 0 n → b ≡ d → has_leaf k s.tree ≡ d
-  leaf_said k n b d e f g =
+  pub leaf_said : (k : ℕ) {n : ℕ} {b d : Bool} → n ≡ table.count → b ≡ leaf_among table.nodes k 0 n → b ≡ d → has_leaf k s.tree ≡ d
+  leaf_said k e f g =
       sym (leaf_found k) ∙ ap (λ (m : ℕ). leaf_among table.nodes k 0 m) (sym e) ∙ sym f ∙ g
 
-  module _ (top : ℕ) (last : top + 1 ≡ size s.tree) where
+  module _ {top : ℕ} (last : top + 1 ≡ size s.tree) where
     -- The tree stands in the table from its first place on.
     pub whole : Subtree table.nodes top [] s.tree (replicate (1023 - size s.tree) Unused)
     whole =
@@ -43,5 +43,5 @@ module _ (table : Table) (a p : ℕ) (s : State) (h : Holds table a p s) where
     )
 
     -- What is seen from the top of the whole tree is the tree's.
-    pub site_seen : (leaf : ℕ) (seen : Survey) → SurveyedAt table.nodes top leaf seen → seen ≡ survey_of leaf s.tree
-    site_seen leaf seen w = w [] s.tree (replicate (1023 - size s.tree) Unused) whole
+    pub site_seen : (leaf : ℕ) {seen : Survey} → SurveyedAt table.nodes top leaf seen → seen ≡ survey_of leaf s.tree
+    site_seen leaf w = w [] s.tree (replicate (1023 - size s.tree) Unused) whole

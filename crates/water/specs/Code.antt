@@ -1,8 +1,7 @@
 -- How a proof tells trees and states apart: a tree is coded as the list of its records in postorder.
 use Rattle.std.specs.Prelude.{◌≡◌, ℕ, ◌⊎◌, List, [], ◌∷◌, ◌++◌, refl}
 use Rattle.std.specs.Coded.{Coded, code_by, coded×, coded⊎, coded_list, coded_ℕ}
-use Rattle.std.proofs.Common.{sym, ap, ◌∙◌, inl, inr}
-use Rattle.std.proofs.lemmas.List.{append_assoc}
+use Rattle.std.proofs.Common.{ap, ◌∙◌, inl, inr}
 use Rattle.water.specs.Tree.{Tree, basin, outlet, merge}
 use Rattle.water.specs.State.{State}
 

@@ -1,5 +1,4 @@
 use Rattle.std.proofs.Common.{refl}
-use Rattle.water.specs.State.{untouched}
 use Rattle.water.specs.Tree.{outlet}
 use Rattle.site.proofs.Fresh.{outlet_formed}
 use Rattle.site.proofs.OneTree.{held, one_state}
@@ -8,8 +7,8 @@ use Rattle.site.proofs.site.Site.fresh.Goals as goal
 
 pub invariant_of-result : goal.invariant_of-result
 invariant_of-result c =
-    held c.lone_outlet.result 0 0 (untouched (outlet 0 0)) (dry_holds c.lone_outlet.result (outlet 0 0) c.lone_outlet.ensures outlet_formed refl)
+    held (dry_holds c.lone_outlet.result (outlet 0 0) c.lone_outlet.ensures outlet_formed refl)
 
 pub returns : goal.returns
 returns c =
-    one_state c.lone_outlet.result 0 0 (untouched (outlet 0 0)) (dry_holds c.lone_outlet.result (outlet 0 0) c.lone_outlet.ensures outlet_formed refl)
+    one_state (dry_holds c.lone_outlet.result (outlet 0 0) c.lone_outlet.ensures outlet_formed refl)

@@ -8,6 +8,6 @@ use Rattle.site.proofs.site.Site.height.Goals as goal
 
 pub returns : goal.returns
 returns c =
-    let h = held_is _ _ _ _ c.self.invariant c.self.view_is in
-    c.tree_height.ensures ∙ ap (λ (l : List Node). newest_height (heights l [])) (used _ _ _ _ h _ c.used.ensures)
+    let h = held_is c.self.invariant c.self.view_is in
+    c.tree_height.ensures ∙ ap (λ (l : List Node). newest_height (heights l [])) (used h c.used.ensures)
     ∙ ap newest_height (heights_of c.args.self.now.tree [] h.stands.sound.formed.few)

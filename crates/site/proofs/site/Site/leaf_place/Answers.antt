@@ -1,4 +1,4 @@
-use Rattle.std.proofs.Common.{true, false, [], Option, sym, ap}
+use Rattle.std.proofs.Common.{[], Option, sym, ap}
 use Rattle.questions.specs.Ask.{verdict}
 use Rattle.questions.proofs.Asked.{passed, stopped}
 use Rattle.water.specs.Tree.{has_leaf}
@@ -11,13 +11,13 @@ use Rattle.site.proofs.site.Site.leaf_place.Goals as goal
 pub returns-then-not-has_leaf : goal.returns-then-not-has_leaf
 returns-then-not-has_leaf c =
     let a = c.args.leaf in
-    let h = held_is _ _ _ _ c.self.invariant c.self.view_is in
-    let e = leaf_said _ _ _ _ h a.0 _ _ false c.count-count.ensures c.has_leaf.ensures c.if-not-has_leaf.true in
+    let h = held_is c.self.invariant c.self.view_is in
+    let e = leaf_said h a.0 c.count-count.ensures c.has_leaf.ensures c.if-not-has_leaf.true in
     ap (λ (o : Option Refusal). verdict o a.0) (sym (stopped (has_leaf a.0 c.args.self.now.tree) (NoLeaf a) [] e))
 
 pub returns : goal.returns
 returns c =
     let a = c.args.leaf in
-    let h = held_is _ _ _ _ c.self.invariant c.self.view_is in
-    let e = leaf_said _ _ _ _ h a.0 _ _ true c.count-count.ensures c.has_leaf.ensures c.if-not-has_leaf.false in
+    let h = held_is c.self.invariant c.self.view_is in
+    let e = leaf_said h a.0 c.count-count.ensures c.has_leaf.ensures c.if-not-has_leaf.false in
     ap (λ (o : Option Refusal). verdict o a.0) (sym (passed (has_leaf a.0 c.args.self.now.tree) (NoLeaf a) [] e))

@@ -23,7 +23,7 @@ returns-in_err-accepted-clause-first_no c =
     let a = c.args.leaf in
     let v = c.args.litres in
     let s = c.args.self.now in
-    let h = held_is _ _ _ _ c.self.invariant c.self.view_is in
+    let h = held_is c.self.invariant c.self.view_is in
     let p = err_from_is_err_and c.from_residual-in_err-accepted.result c.from_residual-in_err-accepted.ensures.1 in
     answer_in_words (rain_questions a v s) _ tt
     (rain_past_limit a v s c.in_ok-at.at c.self.inside.accepted c.in_ok-at.ensures h.accepted
@@ -32,22 +32,22 @@ returns-in_err-accepted-clause-first_no c =
 pub pour-requires-clause-rooted : goal.pour-requires-clause-rooted
 pour-requires-clause-rooted c =
     let v = c.args.litres in
-    let h = held_is _ _ _ _ c.self.invariant c.self.view_is in
+    let h = held_is c.self.invariant c.self.view_is in
     let within = (rain_counted v c.self.inside.accepted c.in_ok-accepted.accepted c.in_ok-accepted.ensures).1 in
-    (site_rooted _ _ _ _ h c.top-top.result c.top-top.ensures v.0 (omega (arith, h.accepted, within))).1
+    (site_rooted h c.top-top.ensures v.0 (omega (arith, h.accepted, within))).1
 
 pub invariant_of-self : goal.invariant_of-self
 invariant_of-self c =
-    let h = held_is _ _ _ _ c.self.invariant c.self.view_is in
-    held _ _ _ _
-    (rained_holds _ _ _ _ _ _ _ _ c.args.leaf c.args.litres _ h c.in_ok-at.ensures c.in_ok-accepted.ensures
+    let h = held_is c.self.invariant c.self.view_is in
+    held
+    (rained_holds c.args.leaf c.args.litres _ h c.in_ok-at.ensures c.in_ok-accepted.ensures
     c.top-top.ensures c.pour.ensures.water c.pour.ensures.count)
 
 pub returns-clause-water : goal.returns-clause-water
 returns-clause-water c = λ _.
-    let h = held_is _ _ _ _ c.self.invariant c.self.view_is in
-    one_state _ _ _ _
-    (rained_holds _ _ _ _ _ _ _ _ c.args.leaf c.args.litres _ h c.in_ok-at.ensures c.in_ok-accepted.ensures
+    let h = held_is c.self.invariant c.self.view_is in
+    one_state
+    (rained_holds c.args.leaf c.args.litres _ h c.in_ok-at.ensures c.in_ok-accepted.ensures
     c.top-top.ensures c.pour.ensures.water c.pour.ensures.count)
 
 pub returns-clause-rained : goal.returns-clause-rained
@@ -55,7 +55,7 @@ returns-clause-rained c = λ _.
     let a = c.args.leaf in
     let v = c.args.litres in
     let s = c.args.self.now in
-    let h = held_is _ _ _ _ c.self.invariant c.self.view_is in
-    let u = rained_holds _ _ _ _ _ _ _ _ a v s h c.in_ok-at.ensures c.in_ok-accepted.ensures c.top-top.ensures c.pour.ensures.water c.pour.ensures.count in
-    subst (Rained a.0 v.0 s) (sym (one_state _ _ _ _ u))
+    let h = held_is c.self.invariant c.self.view_is in
+    let u = rained_holds a v s h c.in_ok-at.ensures c.in_ok-accepted.ensures c.top-top.ensures c.pour.ensures.water c.pour.ensures.count in
+    subst (Rained a.0 v.0 s) (sym (one_state u))
     (rained a v s h.stands (leaf_there a s c.in_ok-at.at c.in_ok-at.ensures) u.stands.limit)

@@ -3,4 +3,4 @@ use Rattle.site.proofs.OneTree.{held_is}
 use Rattle.site.proofs.site.Site.records.Goals as goal
 
 pub returns : goal.returns
-returns c = used _ _ _ _ (held_is _ _ _ _ c.self.invariant c.self.view_is) _ c.used.ensures
+returns c = used (held_is c.self.invariant c.self.view_is) c.used.ensures

@@ -4,9 +4,9 @@ use Rattle.site.proofs.OneTree.{held_is}
 use Rattle.site.proofs.site.Site.top.Goals as goal
 
 pub overflow_sub-result : goal.overflow_sub-result
-overflow_sub-result c = omega (arith, held_some _ _ _ _ c.self.invariant, c.count.ensures)
+overflow_sub-result c = omega (arith, held_some c.self.invariant, c.count.ensures)
 
 pub returns : goal.returns
 returns c =
-    let h = held_is _ _ _ _ c.self.invariant c.self.view_is in
-    omega (arith, held_some _ _ _ _ h, counted _ _ _ _ h, c.count.ensures)
+    let h = held_is c.self.invariant c.self.view_is in
+    omega (arith, held_some h, counted h, c.count.ensures)

@@ -7,17 +7,19 @@ use Rattle.site.proofs.OneTree.{held_is}
 use Rattle.site.proofs.site.Site.totals.Goals as goal
 
 pub total_outflow-requires : goal.total_outflow-requires
-total_outflow-requires c = used_drained _ _ _ _ c.self.invariant _ c.used.ensures
+total_outflow-requires c = used_drained c.self.invariant c.used.ensures
 
-pub returns : goal.returns
-returns c =
-    let s = c.args.self.now in
-    let h = held_is _ _ _ _ c.self.invariant c.self.view_is in
-    let out = c.total_outflow.ensures ∙ ap drained_sum (used _ _ _ _ h _ c.used.ensures) ∙ outflow_is_lem s.tree in
+pub returns-clause-answer : goal.returns-clause-answer
+returns-clause-answer c =
+    let h = held_is c.self.invariant c.self.view_is in
+    let out = c.total_outflow.ensures ∙ ap drained_sum (used h c.used.ensures) ∙ outflow_is_lem c.args.self.now.tree in
     let a = h.accepted in
     let p = h.pumped in
-    record {
-      standing = h.stands;
-      answer = cc;
-      balance = omega (arith, out, a, p, h.stands.balance, held_split s.tree h.stands.sound.formed.shaped h.stands.sound.within);
-    }
+    cc
+
+pub returns-clause-balance : goal.returns-clause-balance
+returns-clause-balance c =
+    let s = c.args.self.now in
+    let h = held_is c.self.invariant c.self.view_is in
+    let out = c.total_outflow.ensures ∙ ap drained_sum (used h c.used.ensures) ∙ outflow_is_lem s.tree in
+    omega (arith, out, h.accepted, h.pumped, h.stands.balance, held_split s.tree h.stands.sound.formed.shaped h.stands.sound.within)

@@ -6,9 +6,9 @@ use Rattle.site.proofs.OneTree.{held_is}
 use Rattle.site.proofs.site.Site.volume.Goals as goal
 
 pub total_volume-requires-clause-volumes_fit : goal.total_volume-requires-clause-volumes_fit
-total_volume-requires-clause-volumes_fit c = used_small _ _ _ _ c.self.invariant _ c.used.ensures
+total_volume-requires-clause-volumes_fit c = used_small c.self.invariant c.used.ensures
 
 pub returns : goal.returns
 returns c =
-    c.total_volume.ensures ∙ ap own_sum (used _ _ _ _ (held_is _ _ _ _ c.self.invariant c.self.view_is) _ c.used.ensures)
+    c.total_volume.ensures ∙ ap own_sum (used (held_is c.self.invariant c.self.view_is) c.used.ensures)
     ∙ volume_is c.args.self.now.tree

@@ -2,7 +2,6 @@ use Rattle.std.proofs.Common.{◌≡◌, Err, Option, sym, refl, ap, ◌∙◌, 
 use Rattle.std.proofs.lemmas.Result.{err_from_is_err_and}
 use Rattle.questions.specs.Ask.{first_no, verdict}
 use Rattle.terrain.specs.declared.refusal.Refusal.{Refusal}
-use Rattle.water.specs.State.{untouched}
 use Rattle.site.specs.Loaded.{SiteRead, accepts, refuses}
 use Rattle.site.specs.Questions.{questions}
 use Rattle.site.specs.Spell.{tree_in}
@@ -17,7 +16,7 @@ invariant_of-result c =
     let h = c.in_ok-table.ensures in
     let p = table_read c.args.file.now c.in_ok-table.table h in
     let t = tree_in c.args.file.now in
-    held c.in_ok-table.table 0 0 (untouched t) (dry_holds c.in_ok-table.table t p.1 (h.formed refl) (h.dry refl))
+    held (dry_holds c.in_ok-table.table t p.1 (h.formed refl) (h.dry refl))
 
 pub returns : goal.returns
 returns c =
@@ -29,7 +28,7 @@ returns c =
       a,
       answer_in_words (questions file) accepts tt a,
       record {
-        state = one_state c.in_ok-table.table 0 0 (untouched t) (dry_holds c.in_ok-table.table t p.1 (h.formed refl) (h.dry refl));
+        state = one_state (dry_holds c.in_ok-table.table t p.1 (h.formed refl) (h.dry refl));
         dry = h.dry refl;
         spelled = h.spelled refl;
         only = only_tree file (h.formed refl) (h.dry refl) (h.spelled refl);
