@@ -1,5 +1,5 @@
 -- What a site's invariant tells of its table.
-use Rattle.std.proofs.Common.{◌≡◌, ℕ, ◌-◌, ◌^◌, ◌<◌, ◌≤◌, List, length, get_or, take, replicate, sym, ap, ◌∙◌, subst, arith}
+use Rattle.std.proofs.Common.{◌≡◌, ℕ, ◌-◌, ◌^◌, ◌<◌, ◌≤◌, List, get_or, take, replicate, sym, ap, ◌∙◌, subst, arith}
 use Rattle.std.proofs.lemmas.List.{take_at}
 use Rattle.water.specs.Tree.{Tree, size}
 use Rattle.water.specs.State.{State}
@@ -32,9 +32,6 @@ module _ {table : Table} {a p : ℕ} {s : State} (h : Holds table a p s) where
   module _ {xs : List Node} (e : xs ≡ take table.count table.nodes) where
     pub used : xs ≡ records s.tree
     used = e ∙ used_is table s.tree h.tree
-
-    pub used_few : length xs ≤ 1023
-    used_few = omega (arith, ap length used, length_records s.tree, h.stands.sound.formed.few)
 
     pub used_small : (k : ℕ) → own_in (get_or xs k Unused) < 2 ^ 40
     used_small k =

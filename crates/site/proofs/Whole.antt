@@ -1,5 +1,5 @@
 -- A site's table holds its whole tree, from the first place on.
-use Rattle.std.proofs.Common.{◌≡◌, ℕ, ◌+◌, ◌-◌, ◌^◌, ◌<◌, ◌≤◌, Bool, [], replicate, sym, refl, ap, ◌∙◌, arith}
+use Rattle.std.proofs.Common.{◌≡◌, ℕ, ◌+◌, ◌-◌, ◌^◌, ◌≤◌, Bool, [], replicate, sym, refl, ap, ◌∙◌, arith}
 use Rattle.water.specs.Tree.{size, has_leaf}
 use Rattle.water.specs.State.{State}
 use Rattle.water.proofs.Numbers.{last_number}
@@ -36,11 +36,9 @@ module _ {table : Table} {a p : ℕ} {s : State} (h : Holds table a p s) where
         }
 
     -- The water of a site can be counted, with all the rain that is accepted.
-    pub site_rooted : (v : ℕ) → s.accepted + v ≤ 2 ^ 60 → (top < 1023) × ∥ Rooted table.nodes top v ∥₁
-    site_rooted v most = (
-      omega (arith, last, h.stands.sound.formed.few),
-      ∣ ([], s.tree, replicate (1023 - size s.tree) Unused, whole, omega (arith, h.stands.balance, most)) ∣₁,
-    )
+    pub site_rooted : (v : ℕ) → s.accepted + v ≤ 2 ^ 60 → ∥ Rooted table.nodes top v ∥₁
+    site_rooted v most =
+        ∣ ([], s.tree, replicate (1023 - size s.tree) Unused, whole, omega (arith, h.stands.balance, most)) ∣₁
 
     -- What is seen from the top of the whole tree is the tree's.
     pub site_seen : (leaf : ℕ) {seen : Survey} → SurveyedAt table.nodes top leaf seen → seen ≡ survey_of leaf s.tree

@@ -22,7 +22,7 @@ returns-in_err-place-clause-first_no c =
 pub survey-seen-requires-clause-rooted : goal.survey-seen-requires-clause-rooted
 survey-seen-requires-clause-rooted c =
     let h = held_is c.self.invariant c.self.view_is in
-    (site_rooted h c.top.ensures 0 (omega (arith, h.stands.limit))).1
+    site_rooted h c.top.ensures 0 (omega (arith, h.stands.limit))
 
 pub returns-clause-answer : goal.returns-clause-answer
 returns-clause-answer c =

@@ -34,7 +34,7 @@ pour-requires-clause-rooted c =
     let v = c.args.litres in
     let h = held_is c.self.invariant c.self.view_is in
     let within = (rain_counted v c.self.inside.accepted c.in_ok-accepted.accepted c.in_ok-accepted.ensures).1 in
-    (site_rooted h c.top-top.ensures v.0 (omega (arith, h.accepted, within))).1
+    site_rooted h c.top-top.ensures v.0 (omega (arith, h.accepted, within))
 
 pub invariant_of-self : goal.invariant_of-self
 invariant_of-self c =
