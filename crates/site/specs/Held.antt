@@ -3,6 +3,7 @@ use Rattle.std.specs.Prelude.{◌≡◌, ℕ}
 use Rattle.water.specs.Tree.{Tree, size}
 use Rattle.water.specs.State.{State, Standing}
 use Rattle.site.specs.Records.{table_of}
+use Rattle.site.specs.Shows.{shown}
 use Rattle.site.specs.declared.table.Table.{Table}
 
 -- The table of a tree.
@@ -16,6 +17,6 @@ pub record Holds (table : Table) (a p : ℕ) (s : State) : Type 0 where
   pub pumped : p ≡ s.pumped
   pub stands : Standing s
 
--- They hold some state that a site can be in.
+-- They hold the state that they show.
 abbrev pub Held : Table → (accepted pumped : ℕ) → Type 0
-Held table accepted pumped = (s : State) × Holds table accepted pumped s
+Held table accepted pumped = Holds table accepted pumped (shown table accepted pumped)

@@ -2,15 +2,13 @@
 use Rattle.std.specs.Prelude.{◌≡◌, ℕ, true, List, is_ok, Some, None, Ok, Err, Result}
 use Rattle.questions.specs.Ask.{FirstNo, first_no, verdict}
 use Rattle.terrain.specs.declared.refusal.Refusal.{Refusal}
-use Rattle.water.specs.State.{untouched}
+use Rattle.water.specs.State.{State, untouched}
 use Rattle.water.specs.Tree.{Tree, dried}
 use Rattle.water.specs.Formed.{Formed}
 use Rattle.site.specs.Held.{tabled}
 use Rattle.site.specs.Postorder.{postorder, records_in}
 use Rattle.site.specs.Questions.{questions}
-use Rattle.site.specs.Shows.{Shows}
 use Rattle.site.specs.Spell.{count_in, format_in, tree_in}
-use Rattle.site.specs.declared.site.Site.{Site}
 use Rattle.site.specs.declared.table.Table.{Table}
 
 -- No other dry tree that is formed as a site's tree has the file's records in postorder.
@@ -19,8 +17,8 @@ OnlyTree file =
     (t : Tree) → Formed t → dried t ≡ t → postorder t ≡ records_in (format_in file) file (count_in file) → t ≡ tree_in file
 
 -- The site is in the state of exactly the tree that the records spell in postorder, dry, with all sums zero.
-pub record Loaded (file : List ℕ) (site : Site) : Type 0 where
-  pub shows : Shows site (untouched (tree_in file))
+pub record Loaded (file : List ℕ) (site : State) : Type 0 where
+  pub state : site ≡ untouched (tree_in file)
   pub dry : dried (tree_in file) ≡ tree_in file
   pub spelled : postorder (tree_in file) ≡ records_in (format_in file) file (count_in file)
   pub only : OnlyTree file
@@ -41,7 +39,7 @@ abbrev pub refuses : Refusal → Result (Unit {0}) Refusal
 refuses refusal = Err refusal
 
 -- The same of a whole site: what an accepted file leaves, or the first question answered no.
-abbrev pub SiteRead : List ℕ → Result Site Refusal → Type 0
+abbrev pub SiteRead : List ℕ → Result State Refusal → Type 0
 SiteRead file (Ok site) =
     (accepts ≡ verdict (first_no (questions file)) tt) × FirstNo (questions file) None × Loaded file site
 SiteRead file (Err refusal) =

@@ -1,14 +1,34 @@
--- What a site shows of itself.
-use Rattle.std.specs.Prelude.{◌≡◌}
+-- The state that a site's table and sums show.
+use Rattle.std.specs.Prelude.{ℕ, ◌+◌, List, [], ◌∷◌}
+use Rattle.water.specs.Tree.{Tree, basin, outlet, merge}
 use Rattle.water.specs.State.{State}
-use Rattle.site.specs.Held.{Holds}
-use Rattle.site.specs.declared.site.Site.{Site}
+use Rattle.site.specs.Spell.{newest}
+use Rattle.site.specs.declared.node.Node.{Node}
+use Rattle.site.specs.declared.node.Node.TheVariants.{Unused, Basin, Outlet, Merge}
+use Rattle.site.specs.declared.table.Table.{Table}
 
--- The site is in the state s.
-abbrev pub Shows : Site → State → Type 0
-Shows site s = Holds site.table site.accepted site.pumped s
+-- A merge joins the two subtrees that were finished last; the earlier one is its left side.
+abbrev pub joined_at : (i own water cut left right : ℕ) → List Tree → List Tree
+joined_at i o w c x y [] = []
+joined_at i o w c x y (r ∷ []) = r ∷ []
+joined_at i o w c x y (r ∷ l ∷ s) = merge i o w c x y l r ∷ s
 
--- It is in a state, and in no other.
-pub record InOneState (site : Site) : Type 0 where
-  pub some : ∥ ((s : State) × Shows site s) ∥₁
-  pub only : (s u : State) → Shows site s → Shows site u → s ≡ u
+-- The subtrees that wait after place i, the newest first, where s waited before it.
+abbrev pub read_node : ℕ → Node → List Tree → List Tree
+read_node i Unused s = s
+read_node i (Basin o w) s = basin i o w ∷ s
+read_node i (Outlet w) s = outlet i w ∷ s
+read_node i (Merge o w c x y) s = joined_at i o w c x y s
+
+-- The subtrees that wait after the places from i on.
+abbrev pub read_from : ℕ → List Node → List Tree → List Tree
+read_from i [] s = s
+read_from i (x ∷ xs) s = read_from (i + 1) xs (read_node i x s)
+
+-- The tree that the records of a table spell in postorder.
+unfoldable pub tree_on : List Node → Tree
+tree_on nodes = newest (read_from 0 nodes [])
+
+-- That tree, and the sums.
+abbrev pub shown : Table → (accepted pumped : ℕ) → State
+shown table a p = record { tree = tree_on table.nodes; accepted = a; pumped = p }

@@ -1,8 +1,6 @@
 // A site: the table of its records with their water, and the sums of its calls.
-ghost use Rattle.std.specs.Prelude.{◌^◌, ◌≤◌};
-ghost use Rattle.site.specs.Held.{Held};
-
 use crate::table::Table;
+use std::marker::Model;
 
 /// The records of a site with their water, the litres of accepted rain and of accepted pumping.
 #[derive(Drop)]
@@ -10,8 +8,23 @@ pub struct Site {
     table: Table,
     accepted: u64,
     pumped: u64,
-    ghost holds: { ∥ Held table accepted pumped ∥₁ },
-    ghost limit: { accepted ≤ 2 ^ 60 },
+}
+
+// A contract sees the tree with the water in it and the sums.
+impl Model for Site {
+    ghost use Rattle.water.specs.Code.{state_code};
+    ghost use Rattle.water.specs.State.{State};
+
+    ghost Value = { State };
+
+    ghost coded = { state_code };
+
+    ghost use Rattle.site.specs.Held.{Held};
+    ghost use Rattle.site.specs.Shows.{shown};
+
+    ghost view = { λ a. shown a.table a.accepted a.pumped };
+
+    ghost invariant = { λ a. Held a.table a.accepted a.pumped };
 }
 
 // The site that there is before any file is loaded.

@@ -11,5 +11,6 @@ pub mod Depression
 pub mod Level
 pub mod Case
 pub mod State
+pub mod Code
 pub mod Calls
 pub mod Examples

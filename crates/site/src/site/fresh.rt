@@ -1,5 +1,5 @@
 // The site that there is before any file is loaded.
-ghost use Rattle.site.specs.Shows.{Shows};
+ghost use Rattle.std.specs.Prelude.{◌≡◌};
 ghost use Rattle.water.specs.State.{untouched};
 ghost use Rattle.water.specs.Tree.{outlet};
 
@@ -9,7 +9,7 @@ use crate::table::Table;
 impl Site {
     /// The outlet alone, dry, in place 0.
     pub fn fresh() -> Site
-        ensures { Shows result (untouched (outlet 0 0)) }
+        ensures { result ≡ untouched (outlet 0 0) }
     {
         Site {
             table: Table::lone_outlet(),

@@ -1,9 +1,8 @@
 // Where the records of a site stand in its table.
 ghost use Rattle.std.specs.Prelude.{◌≡◌, ◌+◌};
 ghost use Rattle.questions.specs.Ask.{first_no, verdict};
-ghost use Rattle.site.specs.Shows.{Shows};
 ghost use Rattle.water.specs.Calls.{level_questions};
-ghost use Rattle.water.specs.State.{State};
+ghost use Rattle.water.specs.Tree.{size};
 
 use super::Site;
 use water::{Leaf, Refusal};
@@ -11,14 +10,14 @@ use water::{Leaf, Refusal};
 impl Site {
     // The place of the topmost record, which is the last.
     pub(crate) fn top(&self) -> usize
-        ensures { result + 1 ≡ self.now.table.count }
+        ensures { result + 1 ≡ size self.now.tree }
     {
         self.table.count() - 1
     }
 
     // The place of a leaf, or that there is none of this number.
     pub(crate) fn leaf_place(&self, leaf: Leaf) -> Result<usize, Refusal>
-        ensures { (s : State) → Shows self.now s → result ≡ verdict (first_no (level_questions leaf s)) leaf.0 }
+        ensures { result ≡ verdict (first_no (level_questions leaf self.now)) leaf.0 }
     {
         let place = leaf.0 as usize;
         let count = self.table.count();

@@ -1,9 +1,7 @@
 // Rain on a site.
 ghost use Rattle.std.specs.Prelude.{◌≡◌, ◌+◌, ◌^◌, ◌≤◌, true, false, [], ◌∷◌, is_ok};
 ghost use Rattle.questions.specs.Ask.{FirstNo, first_no, refusal_in, verdict};
-ghost use Rattle.site.specs.Shows.{Shows};
 ghost use Rattle.water.specs.Calls.{Rained, limit_question, rain_questions, rained_on};
-ghost use Rattle.water.specs.State.{State};
 
 use super::Site;
 use water::{Leaf, Litres, RAIN_LIMIT, Refusal};
@@ -23,10 +21,10 @@ impl Site {
     /// Lets litres fall at a leaf: what a basin has no room for spills over its saddle, and so on to the outlet. The
     /// work does not grow with the litres: no record is filled twice. Refused rain changes nothing.
     pub fn rain(&mut self, leaf: Leaf, litres: Litres) -> Result<(), Refusal>
-        ensures answer { (s : State) → Shows self.old s → result ≡ verdict (first_no (rain_questions leaf litres s)) tt }
-        ensures first_no { (s : State) → Shows self.old s → FirstNo (rain_questions leaf litres s) (refusal_in result) }
-        ensures water { (s : State) → Shows self.old s → is_ok result ≡ true → Shows self.new (rained_on leaf litres s) }
-        ensures rained { (s : State) → Shows self.old s → is_ok result ≡ true → Rained leaf.0 litres.0 s (rained_on leaf litres s) }
+        ensures answer { result ≡ verdict (first_no (rain_questions leaf litres self.old)) tt }
+        ensures first_no { FirstNo (rain_questions leaf litres self.old) (refusal_in result) }
+        ensures water { is_ok result ≡ true → self.new ≡ rained_on leaf litres self.old }
+        ensures rained { is_ok result ≡ true → Rained leaf.0 litres.0 self.old self.new }
         ensures kept { is_ok result ≡ false → self.new ≡ self.old }
     {
         let at = self.leaf_place(leaf)?;

@@ -1,7 +1,5 @@
 // What a site is made of: its records, their total volume and the height of its tree.
 ghost use Rattle.site.specs.Records.{records};
-ghost use Rattle.site.specs.Shows.{Shows};
-ghost use Rattle.water.specs.State.{State};
 ghost use Rattle.water.specs.Tree.{height, volume};
 ghost use Rattle.std.specs.Prelude.{◌≡◌};
 
@@ -12,22 +10,22 @@ use crate::node::Node;
 impl Site {
     /// The records in order, numbered from 0.
     pub fn records(&self) -> &[Node]
-        ensures { (s : State) → Shows self.now s → result.now ≡ records s.tree }
+        ensures { result.now ≡ records self.now.tree }
     {
         self.table.used()
     }
 
     /// The total of the own volumes, in litres.
     pub fn volume(&self) -> u64
-        ensures { (s : State) → Shows self.now s → result ≡ volume s.tree }
+        ensures { result ≡ volume self.now.tree }
     {
-        total_volume(self.records())
+        total_volume(self.table.used())
     }
 
     /// The most merges above any leaf.
     pub fn height(&self) -> u16
-        ensures { (s : State) → Shows self.now s → result ≡ height s.tree }
+        ensures { result ≡ height self.now.tree }
     {
-        tree_height(self.records())
+        tree_height(self.table.used())
     }
 }

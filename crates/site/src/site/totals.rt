@@ -1,7 +1,6 @@
 // What a site reports of its water.
 ghost use Rattle.std.specs.Prelude.{◌≡◌, ◌+◌};
-ghost use Rattle.site.specs.Shows.{InOneState, Shows};
-ghost use Rattle.water.specs.State.{State, totals as totals_of};
+ghost use Rattle.water.specs.State.{Standing, totals as totals_of};
 ghost use Rattle.water.specs.Water.{closed_water};
 
 use super::Site;
@@ -10,16 +9,16 @@ use water::{Litres, Totals};
 
 impl Site {
     /// All accepted rain, what the outlet has taken of it, and all that was pumped. No litre is lost or made: the
-    /// rest of the rain stands in the closed records. And whatever the contracts say of the state that a site shows,
-    /// there is such a state, and only one.
+    /// rest of the rain stands in the closed records. And whatever the contracts say of a site, it is in a state that
+    /// a site can be in.
     pub fn totals(&self) -> Totals
-        ensures state { InOneState self.now }
-        ensures answer { (s : State) → Shows self.now s → result ≡ totals_of s }
-        ensures balance { (s : State) → Shows self.now s → closed_water s.tree + result.outflow.0 + result.pumped.0 ≡ result.accepted.0 }
+        ensures standing { Standing self.now }
+        ensures answer { result ≡ totals_of self.now }
+        ensures balance { closed_water self.now.tree + result.outflow.0 + result.pumped.0 ≡ result.accepted.0 }
     {
         Totals {
             accepted: Litres(self.accepted),
-            outflow: Litres(total_outflow(self.records())),
+            outflow: Litres(total_outflow(self.table.used())),
             pumped: Litres(self.pumped),
         }
     }

@@ -1,16 +1,14 @@
-use Rattle.std.proofs.Common.{refl, arith}
-use Rattle.water.specs.State.{untouched}
+use Rattle.std.proofs.Common.{refl}
 use Rattle.water.specs.Tree.{outlet}
 use Rattle.site.proofs.Fresh.{outlet_formed}
+use Rattle.site.proofs.OneTree.{held, one_state}
 use Rattle.site.proofs.Sounds.{dry_holds}
 use Rattle.site.proofs.site.Site.fresh.Goals as goal
 
 pub invariant_of-result : goal.invariant_of-result
 invariant_of-result c =
-    record {
-      holds = ∣ (untouched (outlet 0 0), dry_holds c.lone_outlet.result (outlet 0 0) c.lone_outlet.ensures outlet_formed refl) ∣₁;
-      limit = omega arith;
-    }
+    held (dry_holds c.lone_outlet.result (outlet 0 0) c.lone_outlet.ensures outlet_formed refl)
 
 pub returns : goal.returns
-returns c = dry_holds c.lone_outlet.result (outlet 0 0) c.lone_outlet.ensures outlet_formed refl
+returns c =
+    one_state (dry_holds c.lone_outlet.result (outlet 0 0) c.lone_outlet.ensures outlet_formed refl)

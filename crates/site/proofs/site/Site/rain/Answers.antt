@@ -1,90 +1,61 @@
-use Rattle.std.proofs.Common.{is_ok, Err, sym, refl, ap, ◌∙◌, arith}
-use mathlib.Core.Logic.{∥∥₁_map}
+use Rattle.std.proofs.Common.{Err, sym, ap, ◌∙◌, subst, arith}
 use Rattle.std.proofs.lemmas.Result.{err_from_is_err_and}
-use Rattle.std.proofs.lemmas.Bool.{false≢true}
 use Rattle.questions.proofs.Asked.{answer_in_words}
-use Rattle.water.specs.Calls.{rain_questions, rained_on}
-use Rattle.water.specs.State.{State}
+use Rattle.water.specs.Calls.{Rained, rain_questions}
 use Rattle.water.proofs.Calling.{rained}
-use Rattle.site.specs.Shows.{Shows}
-use Rattle.water.proofs.Answered.{leaf_at, leaf_there, rain_accepted, rain_counted, rain_no_leaf, rain_past_limit}
+use Rattle.water.proofs.Answered.{leaf_there, rain_counted, rain_no_leaf, rain_past_limit}
+use Rattle.site.proofs.OneTree.{held, held_is, one_state}
 use Rattle.site.proofs.Raining.{rained_holds}
 use Rattle.site.proofs.Whole.{site_rooted}
 use Rattle.site.proofs.site.Site.rain.Goals as goal
 
-pub returns-in_err-at : goal.returns-in_err-at
-returns-in_err-at c =
+pub returns-in_err-at-clause-first_no : goal.returns-in_err-at-clause-first_no
+returns-in_err-at-clause-first_no c =
     let a = c.args.leaf in
     let v = c.args.litres in
+    let s = c.args.self.now in
     let p = err_from_is_err_and c.from_residual.result c.from_residual.ensures.1 in
-    let is = p.1 ∙ ap Err p.2 in
-    let answer = λ (s : State) (h : Shows c.args.self.now s). rain_no_leaf a v s c.in_err-at.field-0.0 c.from_residual.result (c.in_err-at.ensures s h) is in
-    record {
-      answer = answer;
-      first_no = λ s h. answer_in_words (rain_questions a v s) _ tt (answer s h);
-      water = λ s h e. absurd (false≢true (sym (ap is_ok is) ∙ e));
-      rained = λ s h e. absurd (false≢true (sym (ap is_ok is) ∙ e));
-      kept = λ e. refl;
-    }
+    answer_in_words (rain_questions a v s) _ tt
+    (rain_no_leaf a v s c.in_err-at.field-0.0 c.from_residual.result c.in_err-at.ensures (p.1 ∙ ap Err p.2))
 
-pub returns-in_err-accepted : goal.returns-in_err-accepted
-returns-in_err-accepted c =
-    let site = c.args.self.now in
+pub returns-in_err-accepted-clause-first_no : goal.returns-in_err-accepted-clause-first_no
+returns-in_err-accepted-clause-first_no c =
     let a = c.args.leaf in
     let v = c.args.litres in
+    let s = c.args.self.now in
+    let h = held_is c.self.invariant c.self.view_is in
     let p = err_from_is_err_and c.from_residual-in_err-accepted.result c.from_residual-in_err-accepted.ensures.1 in
-    let is = p.1 ∙ ap Err p.2 in
-    let answer = λ (s : State) (h : Shows site s).
-    rain_past_limit a v s c.in_ok-at.at site.accepted (c.in_ok-at.ensures s h) h.accepted
-    c.in_err-accepted.field-0.0 c.from_residual-in_err-accepted.result c.in_err-accepted.ensures is in
-    record {
-      answer = answer;
-      first_no = λ s h. answer_in_words (rain_questions a v s) _ tt (answer s h);
-      water = λ s h e. absurd (false≢true (sym (ap is_ok is) ∙ e));
-      rained = λ s h e. absurd (false≢true (sym (ap is_ok is) ∙ e));
-      kept = λ e. refl;
-    }
+    answer_in_words (rain_questions a v s) _ tt
+    (rain_past_limit a v s c.in_ok-at.at c.self.inside.accepted c.in_ok-at.ensures h.accepted
+    c.in_err-accepted.field-0.0 c.from_residual-in_err-accepted.result c.in_err-accepted.ensures (p.1 ∙ ap Err p.2))
 
-pub pour-requires : goal.pour-requires
-pour-requires c =
-    let site = c.args.self.now in
+pub pour-requires-clause-rooted : goal.pour-requires-clause-rooted
+pour-requires-clause-rooted c =
     let v = c.args.litres in
-    let counted = rain_counted v site.accepted c.in_ok-accepted.accepted c.in_ok-accepted.ensures in
-    let r = site_rooted site c.top-top.result v.0 c.top-top.ensures counted.1 in
-    record { place = r.0; rooted = r.1 }
+    let h = held_is c.self.invariant c.self.view_is in
+    let within = (rain_counted v c.self.inside.accepted c.in_ok-accepted.accepted c.in_ok-accepted.ensures).1 in
+    site_rooted h c.top-top.ensures v.0 (omega (arith, h.accepted, within))
 
 pub invariant_of-self : goal.invariant_of-self
 invariant_of-self c =
-    let site = c.args.self.now in
-    let a = c.args.leaf in
-    let v = c.args.litres in
-    let at = c.in_ok-at.at in
-    let counted = rain_counted v site.accepted c.in_ok-accepted.accepted c.in_ok-accepted.ensures in
-    record {
-      holds = ∥∥₁_map site.holds (λ h. (
-        rained_on a v h.0,
-        rained_holds site.table c.pour.new.self site.accepted site.pumped c.in_ok-accepted.accepted c.top-top.result at c.pour.result a v h.0 h.1 counted
-            c.top-top.ensures (leaf_at a h.0 at (c.in_ok-at.ensures h.0 h.1)) c.pour.ensures.water c.pour.ensures.count,
-      ));
-      limit = omega (arith, counted.0, counted.1);
-    }
+    let h = held_is c.self.invariant c.self.view_is in
+    held
+    (rained_holds c.args.leaf c.args.litres _ h c.in_ok-at.ensures c.in_ok-accepted.ensures
+    c.top-top.ensures c.pour.ensures.water c.pour.ensures.count)
 
-pub returns : goal.returns
-returns c =
-    let site = c.args.self.now in
+pub returns-clause-water : goal.returns-clause-water
+returns-clause-water c = λ _.
+    let h = held_is c.self.invariant c.self.view_is in
+    one_state
+    (rained_holds c.args.leaf c.args.litres _ h c.in_ok-at.ensures c.in_ok-accepted.ensures
+    c.top-top.ensures c.pour.ensures.water c.pour.ensures.count)
+
+pub returns-clause-rained : goal.returns-clause-rained
+returns-clause-rained c = λ _.
     let a = c.args.leaf in
     let v = c.args.litres in
-    let at = c.in_ok-at.at in
-    let k = c.in_ok-accepted.accepted in
-    let counted = rain_counted v site.accepted k c.in_ok-accepted.ensures in
-    let answer = λ (s : State) (h : Shows site s).
-    rain_accepted a v s at site.accepted (c.in_ok-at.ensures s h) h.accepted k c.in_ok-accepted.ensures in
-    record {
-      answer = answer;
-      first_no = λ s h. answer_in_words (rain_questions a v s) _ tt (answer s h);
-      water = λ s h e.
-          rained_holds site.table c.pour.new.self site.accepted site.pumped k c.top-top.result at c.pour.result a v s h counted
-          c.top-top.ensures (leaf_at a s at (c.in_ok-at.ensures s h)) c.pour.ensures.water c.pour.ensures.count;
-      rained = λ s h e. rained a v s h.stands (leaf_there a s at (c.in_ok-at.ensures s h)) (omega (arith, counted.1, h.accepted));
-      kept = λ e. absurd (false≢true (sym e));
-    }
+    let s = c.args.self.now in
+    let h = held_is c.self.invariant c.self.view_is in
+    let u = rained_holds a v s h c.in_ok-at.ensures c.in_ok-accepted.ensures c.top-top.ensures c.pour.ensures.water c.pour.ensures.count in
+    subst (Rained a.0 v.0 s) (sym (one_state u))
+    (rained a v s h.stands (leaf_there a s c.in_ok-at.at c.in_ok-at.ensures) u.stands.limit)

@@ -1,15 +1,14 @@
 use Rattle.std.proofs.Common.{ap, ◌∙◌}
 use Rattle.site.specs.Measures.{own_sum}
-use Rattle.site.proofs.Holding.{used_few, used_small}
+use Rattle.site.proofs.Holding.{used, used_small}
 use Rattle.site.proofs.Measured.{volume_is}
+use Rattle.site.proofs.OneTree.{held_is}
 use Rattle.site.proofs.site.Site.volume.Goals as goal
 
-pub total_volume-requires : goal.total_volume-requires
-total_volume-requires c =
-    record {
-      few = used_few c.args.self.now c.records.result.now c.records.ensures;
-      volumes_fit = used_small c.args.self.now c.records.result.now c.records.ensures;
-    }
+pub total_volume-requires-clause-volumes_fit : goal.total_volume-requires-clause-volumes_fit
+total_volume-requires-clause-volumes_fit c = used_small c.self.invariant c.used.ensures
 
 pub returns : goal.returns
-returns c = λ s h. c.total_volume.ensures ∙ ap own_sum (c.records.ensures s h) ∙ volume_is s.tree
+returns c =
+    c.total_volume.ensures ∙ ap own_sum (used (held_is c.self.invariant c.self.view_is) c.used.ensures)
+    ∙ volume_is c.args.self.now.tree

@@ -1,13 +1,13 @@
-use Rattle.std.proofs.Common.{◌≡◌, Err, Option, sym, refl, ap, ◌∙◌, subst, arith}
+use Rattle.std.proofs.Common.{◌≡◌, Err, Option, sym, refl, ap, ◌∙◌, subst}
 use Rattle.std.proofs.lemmas.Result.{err_from_is_err_and}
 use Rattle.questions.specs.Ask.{first_no, verdict}
 use Rattle.terrain.specs.declared.refusal.Refusal.{Refusal}
-use Rattle.water.specs.State.{untouched}
 use Rattle.site.specs.Loaded.{SiteRead, accepts, refuses}
 use Rattle.site.specs.Questions.{questions}
 use Rattle.site.specs.Spell.{tree_in}
 use Rattle.questions.proofs.Asked.{answer_in_words}
 use Rattle.site.proofs.Loads.{only_tree, table_read, table_refused}
+use Rattle.site.proofs.OneTree.{held, one_state}
 use Rattle.site.proofs.Sounds.{dry_holds}
 use Rattle.site.proofs.site.load.read_site.Goals as goal
 
@@ -16,18 +16,19 @@ invariant_of-result c =
     let h = c.in_ok-table.ensures in
     let p = table_read c.args.file.now c.in_ok-table.table h in
     let t = tree_in c.args.file.now in
-    record { holds = ∣ (untouched t, dry_holds c.in_ok-table.table t p.1 (h.formed refl) (h.dry refl)) ∣₁; limit = omega arith }
+    held (dry_holds c.in_ok-table.table t p.1 (h.formed refl) (h.dry refl))
 
 pub returns : goal.returns
 returns c =
     let file = c.args.file.now in
     let h = c.in_ok-table.ensures in
     let p = table_read file c.in_ok-table.table h in
+    let t = tree_in file in
     let a : accepts ≡ verdict (first_no (questions file)) tt = ap (λ (o : Option Refusal). verdict o tt) (sym p.0) in (
       a,
       answer_in_words (questions file) accepts tt a,
       record {
-        shows = dry_holds c.in_ok-table.table (tree_in file) p.1 (h.formed refl) (h.dry refl);
+        state = one_state (dry_holds c.in_ok-table.table t p.1 (h.formed refl) (h.dry refl));
         dry = h.dry refl;
         spelled = h.spelled refl;
         only = only_tree file (h.formed refl) (h.dry refl) (h.spelled refl);

@@ -7,20 +7,6 @@ use Rattle.site.proofs.Loads.{handed, trailer_refused}
 use Rattle.questions.proofs.Asked.{verdict_err}
 use Rattle.site.proofs.site.load.read_table.Goals as goal
 
-pub build-requires : goal.build-requires
-build-requires c =
-    let b : length c.args.file.now < 2 ^ 64 = omega arith in
-    let t = c.in_ok-trailer.ensures in
-    let h = handed First c.args.file.now c.in_ok-trailer.trailer c.new-reader.result c.trailer.new.self b c.new-reader.ensures.file c.new-reader.ensures.place t.unmoved t.answer c.in-First.is in
-    record { fits = h.fits; note = h.note; start = h.start; close = h.close }
-
-pub build-requires-in-Second : goal.build-requires-in-Second
-build-requires-in-Second c =
-    let b : length c.args.file.now < 2 ^ 64 = omega arith in
-    let t = c.in_ok-trailer.ensures in
-    let h = handed Second c.args.file.now c.in_ok-trailer.trailer c.new-reader.result c.trailer.new.self b c.new-reader.ensures.file c.new-reader.ensures.place t.unmoved t.answer c.in-Second.is in
-    record { fits = h.fits; note = h.note; start = h.start; close = h.close }
-
 pub returns-in_err-trailer : goal.returns-in_err-trailer
 returns-in_err-trailer c =
     let new = c.new-reader.result.file.now in
