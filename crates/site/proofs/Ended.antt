@@ -5,7 +5,6 @@ use Rattle.std.proofs.lemmas.Bool.{cond-true, eqb-true, le-leb}
 use Rattle.questions.proofs.Asked.{all_yes}
 use Rattle.questions.specs.Ask.{AllYes, ask, first_no, verdict}
 use Rattle.terrain.specs.Format.{Format}
-use Rattle.stack.specs.Stack.{capacity, stacked}
 use Rattle.terrain.specs.Steps.{place_after}
 use Rattle.terrain.specs.Trailer.{note_length, tail_of}
 use Rattle.terrain.specs.declared.reader.Reader.{Reader}
@@ -34,12 +33,12 @@ first_start e file = omega (arith, zero-mul e.record_len)
 -- Behind the note, with nothing read, the loader is at the first record.
 pub starts : (e : Format) (n note : ℕ) (file : List ℕ) (reader : Reader) (table : Table) (stack : Stack Summary) → Fits e n file →
     note ≡ note_length e (length file) (tail_of file) → reader.file.now ≡ file → reader.place.at ≡ place_after file 0 note →
-    table.nodes ≡ replicate 1023 Unused → table.count ≡ 0 → stacked stack ≡ [] → capacity stack ≡ 1023 → Reached e n 0 reader table stack
+    table.nodes ≡ replicate 1023 Unused → table.count ≡ 0 → stack.items ≡ [] → stack.room ≡ 1023 → Reached e n 0 reader table stack
 starts e n note file reader table stack f ne fe pe te ce se room =
     let w : 0 + note ≤ length file = omega (arith, f.long, ne) in
     let p : place_after file 0 note ≡ 0 + note = cond-true _ _ _ (le-leb (0 + note) (length file) w) in
     let q : reader.place.at ≡ start_of e file 0 = omega (arith, pe, p, ne, first_start e file) in
-    let b : Building table (stacked stack) [] =
+    let b : Building table stack.items [] =
     record { holds = te ∙ ap (λ (k : ℕ). replicate (1023 - k) Unused) (sym ce); lined = ce; ready = tt; kept = se } in
     reached_with e n 0 file reader table stack fe q ce b refl (ap (λ (k : ℕ). first_no (questions_from e file k 0)) (omega arith)) room
 

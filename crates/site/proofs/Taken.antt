@@ -4,7 +4,6 @@ use Rattle.std.proofs.lemmas.Bool.{cond-true, eqb-true, le-leb, ltb-true}
 use Rattle.questions.specs.Ask.{AllYes, Question, first_no, verdict}
 use Rattle.terrain.specs.Format.{Format, part}
 use Rattle.terrain.specs.Record.{record_of, record_questions, volume_fits}
-use Rattle.stack.specs.Stack.{capacity, stacked}
 use Rattle.terrain.specs.Steps.{next_record, place_after, record_at}
 use Rattle.terrain.specs.declared.reader.Reader.{Reader}
 use Rattle.terrain.specs.declared.record.Kind.{Kind}
@@ -89,14 +88,14 @@ own_below e rec at h = fits_below (record_of e rec).kind (record_of e rec).own (
 
 -- The facts after i records, over the file by itself.
 pub reached_with : (e : Format) (n i : ℕ) (file : List ℕ) (reader : Reader) (table : Table) (stack : Stack Summary) → reader.file.now ≡ file →
-    reader.place.at ≡ start_of e file i → table.count ≡ i → Building table (stacked stack) (waiting e file i) →
+    reader.place.at ≡ start_of e file i → table.count ≡ i → Building table stack.items (waiting e file i) →
     listed (waiting e file i) ≡ records_in e file i →
-    first_no (questions_from e file n 0) ≡ first_no (questions_from e file (n - i) i) → capacity stack ≡ 1023 → Reached e n i reader table stack
+    first_no (questions_from e file n 0) ≡ first_no (questions_from e file (n - i) i) → stack.room ≡ 1023 → Reached e n i reader table stack
 reached_with e n i file reader table stack fe place count built list asked room =
     record {
       place = subst (λ (f : List ℕ). reader.place.at ≡ start_of e f i) (sym fe) place;
       count = count;
-      built = subst (λ (f : List ℕ). Building table (stacked stack) (waiting e f i)) (sym fe) built;
+      built = subst (λ (f : List ℕ). Building table stack.items (waiting e f i)) (sym fe) built;
       listed = subst (λ (f : List ℕ). listed (waiting e f i) ≡ records_in e f i) (sym fe) list;
       asked = subst (λ (f : List ℕ). first_no (questions_from e f n 0) ≡ first_no (questions_from e f (n - i) i)) (sym fe) asked;
       room = room;
@@ -114,15 +113,15 @@ seen_asked e i at file said t s b few pe se =
 pub taken : (e : Format) (n i at : ℕ) (file : List ℕ) (said : Record) (reader : Reader) (before after : Table) (stack stack' : Stack Summary)
     (r : Result (Unit {0}) Refusal) →
     i < n → n ≤ 1023 → at ≡ start_of e file i → said ≡ record_in e file i → first_no (record_asked e file i) ≡ None →
-    before.count ≡ i → Building before (stacked stack) (waiting e file i) → listed (waiting e file i) ≡ records_in e file i →
+    before.count ≡ i → Building before stack.items (waiting e file i) → listed (waiting e file i) ≡ records_in e file i →
     first_no (questions_from e file n 0) ≡ first_no (questions_from e file (n - i) i) →
-    r ≡ verdict (first_no (questions_seen before (stacked stack) said at)) tt →
-    (is_ok r ≡ true → after ≡ table_after before said (stacked stack)) →
-    (is_ok r ≡ true → stacked stack' ≡ summaries_after said.kind before.count (stacked stack)) →
-    capacity stack' ≡ 1023 → reader.file.now ≡ file → reader.place.at ≡ start_of e file i + e.record_len →
+    r ≡ verdict (first_no (questions_seen before stack.items said at)) tt →
+    (is_ok r ≡ true → after ≡ table_after before said stack.items) →
+    (is_ok r ≡ true → stack'.items ≡ summaries_after said.kind before.count stack.items) →
+    stack'.room ≡ 1023 → reader.file.now ≡ file → reader.place.at ≡ start_of e file i + e.record_len →
     Filled e n (i + 1) file reader after stack' r
 taken e n i at file said reader before after stack stack' (Ok u) more few pe se re ce b list asked ans ta sa room fe place =
-    let s : List Summary = stacked stack in
+    let s : List Summary = stack.items in
     let w : List Tree = waiting e file i in
     let q : questions_seen before s said at ≡ tree_asked e file i = seen_asked e i at file said before s b (omega arith) pe se in
     let none : first_no (questions_seen before s said at) ≡ None = (verdict_ok (first_no (questions_seen before s said at)) u tt ans).0 in
@@ -134,9 +133,9 @@ taken e n i at file said reader before after stack stack' (Ok u) more few pe se 
     built_more before s w said at b (omega arith) own none' in
     let b₁ : Building after (summaries_after said.kind before.count s) (grown before.count said w) =
     subst (λ (x : Table). Building x (summaries_after said.kind before.count s) (grown before.count said w)) (sym (ta refl)) b' in
-    let b₂ : Building after (stacked stack') (grown before.count said w) =
+    let b₂ : Building after stack'.items (grown before.count said w) =
     subst (λ (x : List Summary). Building after x (grown before.count said w)) (sym (sa refl)) b₁ in
-    let b₃ : Building after (stacked stack') (waiting e file (i + 1)) = subst (λ (x : List Tree). Building after (stacked stack') x) g b₂ in
+    let b₃ : Building after stack'.items (waiting e file (i + 1)) = subst (λ (x : List Tree). Building after stack'.items x) g b₂ in
     let y : AllYes (tree_questions said at w) = all_yes (tree_questions said at w) none' in
     let v : volume_fits said.kind said.own ≡ true =
     subst (λ (x : Record). volume_fits x.kind x.own ≡ true) (sym se) (volume_fits_lem e (part file (start_of e file i) e.record_len) (start_of e file i) re) in
@@ -147,7 +146,7 @@ taken e n i at file said reader before after stack stack' (Ok u) more few pe se 
     reached_with e n (i + 1) file reader after stack' fe (place ∙ sym (next_start e file i)) c b₃ ls
     (asked ∙ passed_record e n i file more re (ap first_no (sym q) ∙ none)) room
 taken e n i at file said reader before after stack stack' (Err x) more few pe se re ce b list asked ans ta sa room fe place =
-    let s : List Summary = stacked stack in
+    let s : List Summary = stack.items in
     let q : questions_seen before s said at ≡ tree_asked e file i = seen_asked e i at file said before s b (omega arith) pe se in
     let some : first_no (questions_seen before s said at) ≡ Some x = verdict_err (first_no (questions_seen before s said at)) x tt ans in
     asked ∙ stopped_at_tree e n i file x more re (ap first_no (sym q) ∙ some)

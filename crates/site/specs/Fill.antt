@@ -2,7 +2,6 @@
 use Rattle.std.specs.Prelude.{◌≡◌, ℕ, ◌+◌, ◌-◌, ◌^◌, ◌<◌, ◌≤◌, true, List, length, is_ok, Some, Ok, Err, Result}
 use Rattle.questions.specs.Ask.{first_no, verdict}
 use Rattle.terrain.specs.Format.{Format}
-use Rattle.stack.specs.Stack.{capacity, stacked}
 use Rattle.terrain.specs.declared.reader.Reader.{Reader}
 use Rattle.terrain.specs.declared.refusal.Refusal.{Refusal}
 use Rattle.stack.specs.declared.stack.Stack.{Stack}
@@ -20,10 +19,10 @@ use Rattle.site.specs.declared.table.Table.{Table}
 pub record Reached (e : Format) (n i : ℕ) (reader : Reader) (table : Table) (stack : Stack Summary) : Type 0 where
   pub place : reader.place.at ≡ start_of e reader.file.now i
   pub count : table.count ≡ i
-  pub built : Building table (stacked stack) (waiting e reader.file.now i)
+  pub built : Building table stack.items (waiting e reader.file.now i)
   pub listed : listed (waiting e reader.file.now i) ≡ records_in e reader.file.now i
   pub asked : first_no (questions_from e reader.file.now n 0) ≡ first_no (questions_from e reader.file.now (n - i) i)
-  pub room : capacity stack ≡ 1023
+  pub room : stack.room ≡ 1023
 
 -- The records of a file lie between its note and its trailer.
 pub record Fits (e : Format) (n : ℕ) (file : List ℕ) : Type 0 where

@@ -1,6 +1,5 @@
 -- The loader's view of the tree that it builds: the table and the summaries of the subtrees that wait.
 use Rattle.std.specs.Prelude.{◌≡◌, ℕ, ◌+◌, min, Bool, true, false, not, ◌&&◌, ◌||◌, List, [], ◌∷◌, length, is_ok, Result, ◌==◌, nat_le, nat_lt, slice_index_or, slice_set}
-use Rattle.stack.specs.Stack.{capacity, stacked}
 use Rattle.stack.specs.declared.stack.Stack.{Stack}
 use Rattle.questions.specs.Ask.{Question, ask, first_no, verdict}
 use Rattle.terrain.specs.declared.record.Kind.{Kind}
@@ -105,7 +104,7 @@ end_seen at s =
 -- One record more, from one table and stack to the next: the answer to questions 10 to 12, and what stands there
 -- if they are all answered yes.
 pub record Grew (t u : Table) (s v : Stack Summary) (rec : Record) (at : ℕ) (r : Result (Unit {0}) Refusal) : Type 0 where
-  pub answer : r ≡ verdict (first_no (questions_seen t (stacked s) rec at)) tt
-  pub table : is_ok r ≡ true → u ≡ table_after t rec (stacked s)
-  pub waiting : is_ok r ≡ true → stacked v ≡ summaries_after rec.kind t.count (stacked s)
-  pub room : capacity v ≡ capacity s
+  pub answer : r ≡ verdict (first_no (questions_seen t s.items rec at)) tt
+  pub table : is_ok r ≡ true → u ≡ table_after t rec s.items
+  pub waiting : is_ok r ≡ true → v.items ≡ summaries_after rec.kind t.count s.items
+  pub room : v.room ≡ s.room

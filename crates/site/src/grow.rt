@@ -3,7 +3,6 @@ ghost use Rattle.std.specs.Prelude.{◌≡◌, ◌+◌, ◌^◌, ◌<◌, ◌&&�
 ghost use Rattle.site.specs.Loader.{Grew, end_seen};
 ghost use Rattle.questions.specs.Ask.{ask, first_no, verdict};
 ghost use Rattle.terrain.specs.declared.refusal.Refusal.TheVariants.{Landings};
-ghost use Rattle.stack.specs.Stack.{capacity, stacked};
 ghost use Rattle.terrain.specs.declared.record.Kind.TheVariants.{Merge};
 
 use crate::node::{Node, Summary};
@@ -85,7 +84,7 @@ pub(crate) fn grow(
     at: usize,
 ) -> Result<(), Refusal>
     requires room { table.old.count < 1023 }
-    requires room_to_wait { length (stacked waiting.old) < capacity waiting.old }
+    requires room_to_wait { length waiting.old.items < waiting.old.room }
     requires place_fits { at + 8 < 2 ^ 64 }
     ensures { Grew table.old table.new waiting.old waiting.new said.now at result }
 {
@@ -113,7 +112,7 @@ pub(crate) fn grow(
 
 /// Asks, after the last record, whether one subtree is left and whether it has one outlet.
 pub(crate) fn one_tree(waiting: &Stack<'_, Summary>, at: usize) -> Result<(), Refusal>
-    ensures { result ≡ verdict (first_no (end_seen at (stacked waiting.now))) tt }
+    ensures { result ≡ verdict (first_no (end_seen at waiting.now.items)) tt }
 {
     let found = waiting.len();
     if found != 1 {

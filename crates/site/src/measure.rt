@@ -3,7 +3,6 @@ ghost use Rattle.std.specs.Prelude.{◌≡◌, ℕ, ◌+◌, ◌*◌, ◌^◌, �
 ghost use Rattle.site.specs.Filling.{drained};
 ghost use Rattle.site.specs.Measures.{drained_sum, heights, heights_after, joined_heights, newest_height, own_in, own_sum};
 ghost use Rattle.site.specs.declared.node.Node.TheVariants.{Unused};
-ghost use Rattle.stack.specs.Stack.{capacity, stacked};
 
 use crate::node::Node;
 use crate::table::PLACES;
@@ -56,8 +55,8 @@ pub(crate) fn total_outflow(nodes: &[Node]) -> u64
 
 // A merge takes the place of the two newest subtrees, if there are two.
 fn join_heights(waiting: &mut Stack<'_, u16>)
-    ensures items { stacked waiting.new ≡ joined_heights (stacked waiting.old) }
-    ensures room { capacity waiting.new ≡ capacity waiting.old }
+    ensures items { waiting.new.items ≡ joined_heights waiting.old.items }
+    ensures room { waiting.new.room ≡ waiting.old.room }
 {
     if waiting.len() < 2 {
         return;
@@ -69,9 +68,9 @@ fn join_heights(waiting: &mut Stack<'_, u16>)
 
 // One record more: a leaf is a subtree of height 0, a merge is one higher than the higher of its sides.
 fn add_height(waiting: &mut Stack<'_, u16>, node: &Node)
-    requires { length (stacked waiting.old) < capacity waiting.old }
-    ensures items { stacked waiting.new ≡ heights_after node.now (stacked waiting.old) }
-    ensures room { capacity waiting.new ≡ capacity waiting.old }
+    requires { length waiting.old.items < waiting.old.room }
+    ensures items { waiting.new.items ≡ heights_after node.now waiting.old.items }
+    ensures room { waiting.new.room ≡ waiting.old.room }
 {
     match node {
         Node::Unused => {}

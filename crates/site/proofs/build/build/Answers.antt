@@ -2,7 +2,6 @@ use Rattle.std.proofs.Common.{ℕ, ◌-◌, List, length, Err, sym, ap, ◌∙�
 use Rattle.std.proofs.lemmas.Result.{err_from_is_err_and}
 use Rattle.questions.specs.Ask.{first_no}
 use Rattle.terrain.specs.Format.{Format, format}
-use Rattle.stack.specs.Stack.{stacked}
 use Rattle.terrain.specs.Steps.{place_after}
 use Rattle.site.specs.Fill.{Fits}
 use Rattle.site.specs.Loader.{end_seen}
@@ -29,7 +28,7 @@ returns-in_err-one_tree g c =
     let h = c.in_ok-fill.ensures in
     let fe = ap (λ x. x.now) (h.file ∙ c.note.ensures.file) in
     let p = err_from_is_err_and c.from_residual-in_err-one_tree.result c.from_residual-in_err-one_tree.ensures.1 in
-    let s = stacked c.fill.new.waiting in
+    let s = c.fill.new.waiting.items in
     same_file e c.args.trailer.now.count c.args.reader.now.file.now c.fill.new.reader.file.now _ fe
     (ended_err e c.args.trailer.now.count c.args.end c.fill.new.reader.file.now s c.in_err-one_tree.field-0.0 _
     (c.requires.close ∙ ap (λ (f : List ℕ). length f - 12) (sym fe)) h.done.built.kept h.done.asked
@@ -40,7 +39,7 @@ returns g c =
     let e : Format = format g.E.Edition.digit g.E.Edition.record_len g.E.ByteOrder.number in
     let h = c.in_ok-fill.ensures in
     let fe = ap (λ x. x.now) (h.file ∙ c.note.ensures.file) in
-    let s = stacked c.fill.new.waiting in
+    let s = c.fill.new.waiting.items in
     same_file e c.args.trailer.now.count c.args.reader.now.file.now c.fill.new.reader.file.now _ fe
     (ended_ok e c.args.trailer.now.count c.args.end c.fill.new.reader.file.now s c.fill.new.table
     (c.requires.close ∙ ap (λ (f : List ℕ). length f - 12) (sym fe)) c.requires.fits.most h.done.count h.done.built h.done.listed h.done.asked

@@ -2,7 +2,6 @@ use Rattle.std.proofs.Common.{◌≡◌, ℕ, ◌≤◌, length, Some, sym, ap, 
 use Rattle.std.proofs.lemmas.List.{length-map}
 use Rattle.std.proofs.lemmas.Result.{err_from_is_err_and}
 use Rattle.terrain.specs.Format.{Format, format}
-use Rattle.stack.specs.Stack.{stacked}
 use Rattle.site.specs.Building.{summary_of}
 use Rattle.site.specs.Spell.{waiting}
 use Rattle.site.proofs.Built.{few_wait}
@@ -29,7 +28,7 @@ pub grow-requires : goal.grow-requires
 grow-requires g c =
     let e : Format = format g.E.Edition.digit g.E.Edition.record_len g.E.ByteOrder.number in
     let r = c.requires.reached in
-    let l : length (stacked c.args.waiting.now) ≤ c.args.i =
+    let l : length c.args.waiting.now.items ≤ c.args.i =
     omega (arith, ap length r.built.kept, length-map (waiting e c.args.reader.now.file.now c.args.i) summary_of, few_wait _ _ r.built.lined, r.count) in
     let m = g.met.E.Edition.least in
     let t = there e c.args.count c.args.i c.args.reader.now.file.now c.requires.fits c.requires.more in

@@ -1,6 +1,5 @@
 use Rattle.std.proofs.Common.{◌+◌, List, length, get_or, drop, sym, ap, ◌∙◌, arith}
 use Rattle.std.proofs.lemmas.List.{at_drop_all, at_drop_more}
-use Rattle.stack.specs.Stack.{stacked}
 use Rattle.site.specs.Measures.{heights, newest_height}
 use Rattle.site.specs.declared.node.Node.{Node}
 use Rattle.site.specs.declared.node.Node.TheVariants.{Unused}
@@ -10,7 +9,7 @@ use Rattle.site.proofs.measure.tree_height.Goals as goal
 pub loop-node-preserved : goal.loop-node-preserved
 loop-node-preserved c =
     let i = c.loop-node.node-index in
-    let s = stacked c.loop-node.waiting in
+    let s = c.loop-node.waiting.items in
     let m = at_drop_more (λ (l : List Node). heights l s) c.args.nodes.now i Unused c.loop-node-test.true in
     let e = c.add_height.ensures.items in (
       ap (heights (drop (i + 1) c.args.nodes.now)) e ∙ sym m ∙ c.loop-node.invariant.0,
@@ -20,12 +19,12 @@ loop-node-preserved c =
 
 pub returns-in-Some : goal.returns-in-Some
 returns-in-Some c =
-    let s = stacked c.loop-node.waiting in
+    let s = c.loop-node.waiting.items in
     let m = at_drop_all (λ (l : List Node). heights l s) c.args.nodes.now c.loop-node.node-index c.loop-node-test.false in
     newest_some c.in-Some.height s c.in-Some.ensures.answer ∙ ap newest_height (sym (sym c.loop-node.invariant.0 ∙ m))
 
 pub returns-in-None : goal.returns-in-None
 returns-in-None c =
-    let s = stacked c.loop-node.waiting in
+    let s = c.loop-node.waiting.items in
     let m = at_drop_all (λ (l : List Node). heights l s) c.args.nodes.now c.loop-node.node-index c.loop-node-test.false in
     newest_none s c.in-None.ensures.answer ∙ ap newest_height (sym (sym c.loop-node.invariant.0 ∙ m))
