@@ -37,6 +37,7 @@ impl<'a, T: Copy> Stack<'a, T> {
     // Takes the newest item off, if there is one.
     pub fn pop(&mut self) -> Option<T>
         ensures items { Popped self.old.items result self.new.items }
+        ensures within { length self.old.items ≤ self.old.room }
         ensures room { self.new.room ≡ self.old.room }
     {
         let newest = self.count.checked_sub(1)?;

@@ -1,9 +1,10 @@
 use Rattle.std.proofs.Common.{◌+◌, List, length, get_or, drop, sym, ap, ◌∙◌, arith}
 use Rattle.std.proofs.lemmas.List.{at_drop_all, at_drop_more}
+use Rattle.std.specs.Option.{unwrap_or}
 use Rattle.site.specs.Measures.{heights, newest_height}
 use Rattle.site.specs.declared.node.Node.{Node}
 use Rattle.site.specs.declared.node.Node.TheVariants.{Unused}
-use Rattle.site.proofs.Measured.{heights_grow, newest_none, newest_some}
+use Rattle.site.proofs.Measured.{heights_grow, newest_or_none}
 use Rattle.site.proofs.measure.tree_height.Goals as goal
 
 pub loop-node-preserved : goal.loop-node-preserved
@@ -17,14 +18,8 @@ loop-node-preserved c =
       c.add_height.ensures.room ∙ c.loop-node.invariant.2,
     )
 
-pub returns-in-Some : goal.returns-in-Some
-returns-in-Some c =
+pub returns : goal.returns
+returns c =
     let s = c.loop-node.waiting.items in
     let m = at_drop_all (λ (l : List Node). heights l s) c.args.nodes.now c.loop-node.node-index c.loop-node-test.false in
-    newest_some c.in-Some.height s c.in-Some.ensures.answer ∙ ap newest_height (sym (sym c.loop-node.invariant.0 ∙ m))
-
-pub returns-in-None : goal.returns-in-None
-returns-in-None c =
-    let s = c.loop-node.waiting.items in
-    let m = at_drop_all (λ (l : List Node). heights l s) c.args.nodes.now c.loop-node.node-index c.loop-node-test.false in
-    newest_none s c.in-None.ensures.answer ∙ ap newest_height (sym (sym c.loop-node.invariant.0 ∙ m))
+    c.unwrap_or.ensures ∙ ap (λ h. unwrap_or h 0) c.top.ensures.answer ∙ newest_or_none s ∙ ap newest_height (sym (sym c.loop-node.invariant.0 ∙ m))
