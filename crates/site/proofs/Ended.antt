@@ -1,47 +1,34 @@
 -- From an empty table to the tree of all the records.
-use Rattle.std.proofs.Common.{◌≡◌, ℕ, ◌+◌, ◌-◌, ◌≤◌, true, false, eqb, List, [], ◌∷◌, ◌++◌, map, length, replicate, is_ok, Some, None, Ok, Err, Option, Result, sym, refl, ap, ◌∙◌, subst, zero-mul, arith}
+use Rattle.std.proofs.Common.{◌≡◌, ℕ, ◌-◌, ◌≤◌, true, false, eqb, List, [], ◌∷◌, ◌++◌, map, length, replicate, is_ok, Some, None, Ok, Err, Option, Result, sym, refl, ap, ◌∙◌, subst, arith}
 use Rattle.std.proofs.lemmas.List.{length-map}
-use Rattle.std.proofs.lemmas.Bool.{cond-true, eqb-true, le-leb}
-use Rattle.questions.proofs.Asked.{all_yes}
+use Rattle.std.proofs.lemmas.Bool.{eqb-true}
+use Rattle.questions.proofs.Asked.{all_yes, verdict_err, verdict_ok}
 use Rattle.questions.specs.Ask.{AllYes, ask, first_no, verdict}
 use Rattle.terrain.specs.Format.{Format}
-use Rattle.stack.specs.Stack.{capacity, stacked}
-use Rattle.terrain.specs.Steps.{place_after}
-use Rattle.terrain.specs.Trailer.{note_length, tail_of}
 use Rattle.terrain.specs.declared.reader.Reader.{Reader}
 use Rattle.terrain.specs.declared.refusal.Refusal.{Refusal}
 use Rattle.terrain.specs.declared.refusal.Refusal.TheVariants.{Subtrees, Outlets}
-use Rattle.stack.specs.declared.stack.Stack.{Stack}
 use Rattle.water.specs.Formed.{Formed, Numbered}
 use Rattle.water.specs.Tree.{Tree, dried, first, outlets, size}
 use Rattle.site.specs.Building.{Building, listed, summary_of}
-use Rattle.site.specs.Fill.{Fits, Reached, Spelled}
+use Rattle.site.specs.Fill.{Reached, Spelled}
 use Rattle.site.specs.Held.{tabled}
+use Rattle.site.specs.Loaded.{accepts, refuses}
 use Rattle.site.specs.Loader.{end_seen}
-use Rattle.site.specs.Postorder.{postorder, records_in}
+use Rattle.site.specs.Postorder.{postorder}
 use Rattle.site.specs.Questions.{end_questions, outlets_of, questions_from}
 use Rattle.site.specs.Records.{records}
-use Rattle.site.specs.Spell.{newest, start_of, tree_of, waiting}
+use Rattle.site.specs.Spell.{newest, tree_of, waiting}
 use Rattle.site.specs.declared.node.Node.TheVariants.{Unused}
+use Rattle.site.specs.declared.loading.Loading.{Loading}
 use Rattle.site.specs.declared.node.Summary.{Summary}
 use Rattle.site.specs.declared.table.Table.{Table}
-use Rattle.site.proofs.Taken.{reached_with}
 
--- The first record starts behind the note.
-pub first_start : (e : Format) (file : List ℕ) → start_of e file 0 ≡ note_length e (length file) (tail_of file)
-first_start e file = omega (arith, zero-mul e.record_len)
-
--- Behind the note, with nothing read, the loader is at the first record.
-pub starts : (e : Format) (n note : ℕ) (file : List ℕ) (reader : Reader) (table : Table) (stack : Stack Summary) → Fits e n file →
-    note ≡ note_length e (length file) (tail_of file) → reader.file.now ≡ file → reader.place.at ≡ place_after file 0 note →
-    table.nodes ≡ replicate 1023 Unused → table.count ≡ 0 → stacked stack ≡ [] → capacity stack ≡ 1023 → Reached e n 0 reader table stack
-starts e n note file reader table stack f ne fe pe te ce se room =
-    let w : 0 + note ≤ length file = omega (arith, f.long, ne) in
-    let p : place_after file 0 note ≡ 0 + note = cond-true _ _ _ (le-leb (0 + note) (length file) w) in
-    let q : reader.place.at ≡ start_of e file 0 = omega (arith, pe, p, ne, first_start e file) in
-    let b : Building table (stacked stack) [] =
-    record { holds = te ∙ ap (λ (k : ℕ). replicate (1023 - k) Unused) (sym ce); lined = ce; ready = tt; kept = se } in
-    reached_with e n 0 file reader table stack fe q ce b refl (ap (λ (k : ℕ). first_no (questions_from e file k 0)) (omega arith)) room
+-- Nothing is built in a table of unused places.
+pub nothing_built : (table : Table) (summaries : List Summary) → table.nodes ≡ replicate 1023 Unused → table.count ≡ 0 → summaries ≡ [] →
+    Building table summaries []
+nothing_built table summaries unused none empty =
+    record { holds = unused ∙ ap (λ (k : ℕ). replicate (1023 - k) Unused) (sym none); lined = none; ready = tt; kept = empty }
 
 -- The summaries answer the last questions.
 end_seen_lem : (at : ℕ) (w : List Tree) → end_seen at (map summary_of w) ≡ end_questions at w
@@ -93,33 +80,44 @@ stopped_err e n file r x re q =
       spelled = λ k. absurd (no_ok r x re k);
     }
 
-pub ended_err : (e : Format) (n at : ℕ) (file : List ℕ) (s : List Summary) (x : Refusal) (r : Result Table Refusal) → at ≡ length file - 12 →
-    s ≡ map summary_of (waiting e file n) → first_no (questions_from e file n 0) ≡ first_no (questions_from e file (n - n) n) →
-    first_no (end_seen at s) ≡ Some x → r ≡ Err x → Spelled e n file r
-ended_err e n at file s x r ae se asked o re =
-    let q : first_no (questions_from e file n 0) ≡ Some x =
-    last_asked e n file asked ∙ ap (λ (k : ℕ). first_no (end_questions k (waiting e file n))) (sym ae)
-    ∙ ap first_no (sym (end_seen_lem at (waiting e file n))) ∙ ap (λ (l : List Summary). first_no (end_seen at l)) (sym se) ∙ o in
-    stopped_err e n file r x re q
-
-pub ended_ok : (e : Format) (n at : ℕ) (file : List ℕ) (s : List Summary) (table : Table) → at ≡ length file - 12 → n ≤ 1023 → table.count ≡ n →
-    Building table s (waiting e file n) → listed (waiting e file n) ≡ records_in e file n →
-    first_no (questions_from e file n 0) ≡ first_no (questions_from e file (n - n) n) → first_no (end_seen at s) ≡ None → Spelled e n file (Ok table)
-ended_ok e n at file s table ae few ce b list asked o =
-    let w : List Tree = waiting e file n in
-    let o' : first_no (end_questions at w) ≡ None =
-    ap first_no (sym (end_seen_lem at w)) ∙ ap (λ (l : List Summary). first_no (end_seen at l)) (sym b.kept) ∙ o in
-    let y : AllYes (end_questions at w) = all_yes (end_questions at w) o' in
-    let t : OneTree table w = one_tree table s w b (omega arith) (eqb-true _ _ y.0) (eqb-true _ _ y.1.0) in
-    let q : first_no (questions_from e file n 0) ≡ None =
-    last_asked e n file asked ∙ ap (λ (k : ℕ). first_no (end_questions k w)) (sym ae) ∙ o' in
-    record {
-      answer = ap Ok t.table ∙ ap (λ (x : Option Refusal). verdict x (tabled (tree_of e file n))) (sym q);
-      formed = λ _. t.formed;
-      dry = λ _. t.dry;
-      spelled = λ _. t.listed ∙ list;
-    }
-
 -- What holds of the reader's file holds of the file that it was handed.
 pub same_file : (e : Format) (n : ℕ) (file file' : List ℕ) (r : Result Table Refusal) → file' ≡ file → Spelled e n file' r → Spelled e n file r
 same_file e n file file' r p s = subst (λ (f : List ℕ). Spelled e n f r) p s
+
+-- When n records have been taken, the last questions decide.
+module _ (e : Format) (n at : ℕ) (file : List ℕ) (reader : Reader) (loading : Loading)
+    (so_far : Reached e reader loading) (all : loading.table.count ≡ n) (same : reader.file.now ≡ file) (close : at ≡ length file - 12) where
+  here : (r : Result Table Refusal) → Spelled e loading.table.count reader.file.now r → Spelled e n file r
+  here r s = subst (λ (k : ℕ). Spelled e k file r) all (same_file e loading.table.count file reader.file.now r same s)
+
+  -- The first no of all the questions is that of the last ones.
+  decides : (o : Option Refusal) → first_no (end_seen at loading.waiting.items) ≡ o →
+      (first_no (end_questions at (waiting e reader.file.now loading.table.count)) ≡ o)
+      × (first_no (questions_from e reader.file.now loading.table.count 0) ≡ o)
+  decides o q =
+      let w : List Tree = waiting e reader.file.now loading.table.count in
+      let end : first_no (end_questions at w) ≡ o =
+      ap first_no (sym (end_seen_lem at w)) ∙ ap (λ (l : List Summary). first_no (end_seen at l)) (sym so_far.built.kept) ∙ q in
+      let close' : at ≡ length reader.file.now - 12 = close ∙ ap (λ (f : List ℕ). length f - 12) (sym same) in (
+        end,
+        last_asked e loading.table.count reader.file.now (so_far.asked loading.table.count (omega arith))
+            ∙ ap (λ (k : ℕ). first_no (end_questions k w)) (sym close') ∙ end,
+      )
+
+  pub ended_err : (r : Result Table Refusal) (x : Refusal) → r ≡ Err x → refuses x ≡ verdict (first_no (end_seen at loading.waiting.items)) tt → Spelled e n file r
+  ended_err r x re q =
+      here r (stopped_err e loading.table.count reader.file.now r x re
+      (decides (Some x) (verdict_err (first_no (end_seen at loading.waiting.items)) x tt q)).1)
+
+  pub ended_ok : n ≤ 1023 → accepts ≡ verdict (first_no (end_seen at loading.waiting.items)) tt → Spelled e n file (Ok loading.table)
+  ended_ok few q =
+      let w : List Tree = waiting e reader.file.now loading.table.count in
+      let none = decides None (verdict_ok (first_no (end_seen at loading.waiting.items)) tt tt q).0 in
+      let y : AllYes (end_questions at w) = all_yes (end_questions at w) none.0 in
+      let t : OneTree loading.table w = one_tree loading.table loading.waiting.items w so_far.built (omega (arith, all)) (eqb-true _ _ y.0) (eqb-true _ _ y.1.0) in
+      here (Ok loading.table) record {
+        answer = ap Ok t.table ∙ ap (λ (x : Option Refusal). verdict x (tabled (newest w))) (sym none.1);
+        formed = λ _. t.formed;
+        dry = λ _. t.dry;
+        spelled = λ _. t.listed ∙ so_far.listed;
+      }

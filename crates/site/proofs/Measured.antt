@@ -1,27 +1,26 @@
 -- Sums and heights of the records of a tree.
-use Rattle.std.proofs.Common.{◌≡◌, ℕ, zero, suc, ◌+◌, ◌-◌, ◌^◌, ◌<◌, ◌≤◌, min, max, List, [], ◌∷◌, ◌++◌, length, get_or, Some, None, sym, refl, ap, ◌∙◌, subst, ⊎_elim, arith}
+use Rattle.std.proofs.Common.{◌≡◌, ℕ, zero, suc, ◌+◌, ◌-◌, ◌^◌, ◌<◌, ◌≤◌, min, max, List, [], ◌∷◌, ◌++◌, length, get_or, sum_by, sym, refl, ap, ◌∙◌, subst, ⊎_elim, mul-le-mul_right, arith}
 use Rattle.std.proofs.lemmas.List.{get_or_append_left, get_or-append_right}
 use Rattle.std.proofs.lemmas.Bool.{cases_lt}
+use Rattle.std.proofs.lemmas.List.Sums.{sum_by-append, sum_by-le}
+use Rattle.std.proofs.lemmas.List.Elements.{All-from_get_or}
+use Rattle.std.specs.Option.{unwrap_or}
 use Rattle.stack.specs.Stack.{newest}
 use Rattle.water.specs.Tree.{Tree, basin, outlet, merge, size, volume, height}
 use Rattle.water.specs.Formed.{Shaped}
 use Rattle.water.specs.Water.{held, outflow}
 use Rattle.site.specs.Filling.{drained}
-use Rattle.site.specs.Measures.{node_sum, own_in, own_sum, drained_sum, joined_heights, heights_after, heights, newest_height}
+use Rattle.site.specs.Measures.{own_in, own_sum, drained_sum, joined_heights, heights_after, heights, newest_height}
 use Rattle.site.specs.Records.{records}
 use Rattle.site.specs.declared.node.Node.{Node}
 use Rattle.site.specs.declared.node.Node.TheVariants.{Unused, Basin, Outlet, Merge}
 
-node_sum_append : (f : Node → ℕ) (xs ys : List Node) → node_sum f (xs ++ ys) ≡ node_sum f xs + node_sum f ys
-node_sum_append f [] ys = omega arith
-node_sum_append f (x ∷ xs) ys = let h = node_sum_append f xs ys in omega arith
-
 -- The sum over the records of a merge: those of both sides, and its own.
 merge_sum : (f : Node → ℕ) (x : Node) (l r : Tree) →
-    node_sum f ((records l ++ records r) ++ (x ∷ [])) ≡ node_sum f (records l) + node_sum f (records r) + f x
+    sum_by f ((records l ++ records r) ++ (x ∷ [])) ≡ sum_by f (records l) + sum_by f (records r) + f x
 merge_sum f x l r =
-    let s = node_sum_append f (records l ++ records r) (x ∷ []) in
-    let u = node_sum_append f (records l) (records r) in
+    let s = sum_by-append f (records l ++ records r) (x ∷ []) in
+    let u = sum_by-append f (records l) (records r) in
     omega arith
 
 -- The own volumes of the records make the total volume of the tree.
@@ -95,11 +94,15 @@ records_small (merge n o w c a b l r) h =
     (small_append (records l) (records r) (records_small l h.0) (records_small r h.1))
     (small_one (Merge o w c a b) h.2)
 
--- What the newest of the heights is.
-pub newest_some : (h : ℕ) (s : List ℕ) → Some h ≡ newest s → h ≡ newest_height s
-newest_some h [] e = let z : ◌≡◌ {A = ℕ} 0 1 = cc in absurd (omega arith)
-newest_some h (x ∷ s) e = cc
+-- The own volumes of a site's records can be added up.
+pub volumes_fit : (xs : List Node) → length xs ≤ 1023 → AllSmall xs → own_sum xs < 2 ^ 64
+volumes_fit xs few small =
+    let all = All-from_get_or (λ x. own_in x ≤ 2 ^ 40) xs Unused (λ k h. let s = small k in omega arith) in
+    let most = sum_by-le own_in (2 ^ 40) xs all in
+    let few' = mul-le-mul_right (2 ^ 40) few in
+    omega arith
 
-pub newest_none : (s : List ℕ) → None ≡ newest s → 0 ≡ newest_height s
-newest_none [] e = refl
-newest_none (x ∷ s) e = let z : ◌≡◌ {A = ℕ} 0 1 = cc in absurd (omega arith)
+-- What the newest of the heights is.
+pub newest_or_none : (s : List ℕ) → unwrap_or (newest s) 0 ≡ newest_height s
+newest_or_none [] = refl
+newest_or_none (h ∷ s) = refl

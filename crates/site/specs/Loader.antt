@@ -1,13 +1,12 @@
 -- The loader's view of the tree that it builds: the table and the summaries of the subtrees that wait.
 use Rattle.std.specs.Prelude.{◌≡◌, ℕ, ◌+◌, min, Bool, true, false, not, ◌&&◌, ◌||◌, List, [], ◌∷◌, length, is_ok, Result, ◌==◌, nat_le, nat_lt, slice_index_or, slice_set}
-use Rattle.stack.specs.Stack.{capacity, stacked}
-use Rattle.stack.specs.declared.stack.Stack.{Stack}
 use Rattle.questions.specs.Ask.{Question, ask, first_no, verdict}
 use Rattle.terrain.specs.declared.record.Kind.{Kind}
 use Rattle.terrain.specs.declared.record.Kind.TheVariants.{Basin, Merge, Outlet}
 use Rattle.terrain.specs.declared.record.Record.{Record}
 use Rattle.terrain.specs.declared.refusal.Refusal.{Refusal}
 use Rattle.terrain.specs.declared.refusal.Refusal.TheVariants.{Waiting, Landings, OpenVolume, Subtrees, Outlets}
+use Rattle.site.specs.declared.loading.Loading.{Loading}
 use Rattle.site.specs.declared.node.Node.{Node}
 use Rattle.site.specs.declared.node.Node.TheVariants.{Unused, Basin as BasinNode, Outlet as OutletNode, Merge as MergeNode}
 use Rattle.site.specs.declared.node.Summary.{Summary}
@@ -102,10 +101,8 @@ end_seen at s =
     ∷ ask (newest_outlets s == 1) (Outlets (newest_outlets s) at)
     ∷ []
 
--- One record more, from one table and stack to the next: the answer to questions 10 to 12, and what stands there
--- if they are all answered yes.
-pub record Grew (t u : Table) (s v : Stack Summary) (rec : Record) (at : ℕ) (r : Result (Unit {0}) Refusal) : Type 0 where
-  pub answer : r ≡ verdict (first_no (questions_seen t (stacked s) rec at)) tt
-  pub table : is_ok r ≡ true → u ≡ table_after t rec (stacked s)
-  pub waiting : is_ok r ≡ true → stacked v ≡ summaries_after rec.kind t.count (stacked s)
-  pub room : capacity v ≡ capacity s
+-- One record more: the answer to questions 10 to 12, and what stands there if they are all answered yes.
+pub record Grew (before after : Loading) (rec : Record) (at : ℕ) (r : Result (Unit {0}) Refusal) : Type 0 where
+  pub answer : r ≡ verdict (first_no (questions_seen before.table before.waiting.items rec at)) tt
+  pub table : is_ok r ≡ true → after.table ≡ table_after before.table rec before.waiting.items
+  pub waiting : is_ok r ≡ true → after.waiting.items ≡ summaries_after rec.kind before.table.count before.waiting.items

@@ -1,5 +1,5 @@
 -- What is worked out in one pass over the records of a tree.
-use Rattle.std.specs.Prelude.{ℕ, ◌+◌, min, max, List, [], ◌∷◌}
+use Rattle.std.specs.Prelude.{ℕ, ◌+◌, min, max, List, [], ◌∷◌, sum_by}
 use Rattle.site.specs.Filling.{drained}
 use Rattle.site.specs.declared.node.Node.{Node}
 use Rattle.site.specs.declared.node.Node.TheVariants.{Unused, Basin, Outlet, Merge}
@@ -11,18 +11,13 @@ own_in (Basin o w) = o
 own_in (Outlet w) = 0
 own_in (Merge o w c a b) = o
 
--- The sum of a number that each record has.
-abbrev pub node_sum : (Node → ℕ) → List Node → ℕ
-node_sum f [] = 0
-node_sum f (x ∷ xs) = f x + node_sum f xs
-
 -- The sum of the own volumes.
 abbrev pub own_sum : List Node → ℕ
-own_sum xs = node_sum own_in xs
+own_sum xs = sum_by own_in xs
 
 -- The sum of what the outlets have taken.
 abbrev pub drained_sum : List Node → ℕ
-drained_sum xs = node_sum drained xs
+drained_sum xs = sum_by drained xs
 
 -- A merge stands on the two newest heights, and is one higher than the greater. No height comes near 65,535.
 abbrev pub joined_heights : List ℕ → List ℕ

@@ -4,12 +4,10 @@ ghost use Rattle.site.specs.Fill.{Fits, Spelled};
 ghost use Rattle.terrain.specs.Format.{said_by};
 ghost use Rattle.terrain.specs.Trailer.{note_length, tail_of};
 
-use crate::fill::fill;
-use crate::grow::one_tree;
+use crate::loading::Loading;
 use crate::node::Summary;
 use crate::table::{PLACES, Table};
 use byte_order::Edition;
-use stack::Stack;
 use terrain::{Reader, Refusal, Trailer};
 
 /// Reads the note and the records that the trailer names; `end` is where the trailer starts.
@@ -25,13 +23,9 @@ pub(crate) fn build<E: Edition>(
     ensures { Spelled (said_by E.Edition) trailer.now.count reader.old.file.now result }
 {
     let _ = reader.bytes(trailer.note);
-    let mut slots = [Summary {
-        first: 0,
-        outlets: 0,
-    }; PLACES];
-    let mut waiting = Stack::new(&mut slots);
-    let mut table = Table::unused();
-    fill::<E>(reader, &mut table, &mut waiting, trailer.count)?;
-    one_tree(&waiting, end)?;
-    Ok(table)
+    let mut slots = [Summary::default(); PLACES];
+    let mut loading = Loading::new(&mut slots);
+    loading.fill::<E>(reader, trailer.count)?;
+    loading.one_tree(end)?;
+    Ok(loading.table)
 }

@@ -1,51 +1,41 @@
 // Going through the records of a file, by one text for every edition.
-ghost use Rattle.std.specs.Prelude.{◌≡◌, ◌+◌, ◌<◌};
-ghost use Rattle.site.specs.Fill.{Filled, Fits, Reached};
+ghost use Rattle.std.specs.Prelude.{◌≡◌, ◌+◌};
+ghost use Rattle.site.specs.Fill.{Filled, Fits, MoreLeft, Reached};
 ghost use Rattle.terrain.specs.Format.{said_by};
 
-use crate::grow::grow;
-use crate::node::Summary;
-use crate::table::Table;
+use crate::grow::Placed;
+use crate::loading::Loading;
 use byte_order::Edition;
-use stack::Stack;
 use terrain::{Reader, Refusal};
 
-// Puts record i of `count` into the table, if its questions are all answered yes.
-fn take_record<E: Edition>(
-    reader: &mut Reader<'_>,
-    table: &mut Table,
-    waiting: &mut Stack<'_, Summary>,
-    i: u16,
-    count: u16,
-) -> Result<(), Refusal>
-    requires fits { Fits (said_by E.Edition) count reader.old.file.now }
-    requires more { i < count }
-    requires reached { Reached (said_by E.Edition) count i reader.old table.old waiting.old }
-    ensures done { Filled (said_by E.Edition) count (i + 1) reader.old.file.now reader.new table.new waiting.new result }
-    ensures file { reader.new.file ≡ reader.old.file }
-{
-    let at = reader.place();
-    let Some(step) = reader.record::<E>() else {
-        unreachable()
-    };
-    let said = step?;
-    grow(table, waiting, &said, at)
-}
-
-/// Puts the next `count` records into the table, up to the first question answered no.
-pub(crate) fn fill<E: Edition>(
-    reader: &mut Reader<'_>,
-    table: &mut Table,
-    waiting: &mut Stack<'_, Summary>,
-    count: u16,
-) -> Result<(), Refusal>
-    requires fits { Fits (said_by E.Edition) count reader.old.file.now }
-    requires start { Reached (said_by E.Edition) count 0 reader.old table.old waiting.old }
-    ensures done { Filled (said_by E.Edition) count count reader.old.file.now reader.new table.new waiting.new result }
-    ensures file { reader.new.file ≡ reader.old.file }
-{
-    for i in 0..count {
-        take_record::<E>(reader, table, waiting, i, count)?;
+impl Loading<'_> {
+    // Puts the next record into the table, if its questions are all answered yes.
+    fn take_record<E: Edition>(&mut self, reader: &mut Reader<'_>) -> Result<(), Refusal>
+        requires more { MoreLeft (said_by E.Edition) self.old.table.count reader.old.file.now }
+        requires reached { Reached (said_by E.Edition) reader.old self.old }
+        ensures done { Filled (said_by E.Edition) (self.old.table.count + 1) reader.old.file.now reader.new self.new result }
+        ensures file { reader.new.file ≡ reader.old.file }
+    {
+        let at = reader.place();
+        let said = reader.record::<E>().unwrap()?;
+        self.grow(&Placed { said, at })
     }
-    Ok(())
+
+    /// Puts the first `count` records into the table, up to the first question answered no.
+    pub(crate) fn fill<E: Edition>(
+        &mut self,
+        reader: &mut Reader<'_>,
+        count: u16,
+    ) -> Result<(), Refusal>
+        requires fits { Fits (said_by E.Edition) count reader.old.file.now }
+        requires empty { self.old.table.count ≡ 0 }
+        requires reached { Reached (said_by E.Edition) reader.old self.old }
+        ensures done { Filled (said_by E.Edition) count reader.old.file.now reader.new self.new result }
+        ensures file { reader.new.file ≡ reader.old.file }
+    {
+        for _i in 0..count {
+            self.take_record::<E>(reader)?;
+        }
+        Ok(())
+    }
 }

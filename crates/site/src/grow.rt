@@ -1,130 +1,139 @@
 // One record more on the tree that is being loaded.
-ghost use Rattle.std.specs.Prelude.{◌≡◌, ◌+◌, ◌^◌, ◌<◌, ◌&&◌, [], ◌∷◌, length, ◌==◌};
-ghost use Rattle.site.specs.Loader.{Grew, end_seen};
+ghost use Rattle.std.specs.Prelude.{◌≡◌, ◌+◌, ◌^◌, ◌<◌, ◌&&◌, true, [], ◌∷◌, is_ok, ◌==◌, slice_set};
+ghost use Rattle.site.specs.Loader.{Grew, end_seen, leaf_among};
 ghost use Rattle.questions.specs.Ask.{ask, first_no, verdict};
 ghost use Rattle.terrain.specs.declared.refusal.Refusal.TheVariants.{Landings};
-ghost use Rattle.stack.specs.Stack.{capacity, stacked};
 ghost use Rattle.terrain.specs.declared.record.Kind.TheVariants.{Merge};
 
+use crate::loading::Loading;
 use crate::node::{Node, Summary};
-use crate::table::Table;
-use stack::Stack;
 use terrain::{Kind, Record, Refusal};
 
-// A merge joins the two subtrees that were finished last.
-fn merge(
-    table: &mut Table,
-    waiting: &mut Stack<'_, Summary>,
-    said: &Record,
-    at: usize,
-) -> Result<(), Refusal>
-    requires is_merge { said.now.kind ≡ Merge }
-    requires room { table.old.count < 1023 }
-    requires place_fits { at + 8 < 2 ^ 64 }
-    ensures { Grew table.old table.new waiting.old waiting.new said.now at result }
-{
-    let found = waiting.len();
-    let Some(right) = waiting.pop() else {
-        return Err(Refusal::Waiting { waiting: found, at });
-    };
-    let Some(left) = waiting.pop() else {
-        return Err(Refusal::Waiting { waiting: found, at });
-    };
-    let cut = right.first as usize;
-    let on_left = table.has_leaf(said.left as usize, left.first as usize, cut);
-    let on_right = table.has_leaf(said.right as usize, cut, table.count());
-    if !on_left || !on_right {
-        return Err(Refusal::Landings {
-            left: said.left,
-            right: said.right,
-            at: at + 2,
-        });
-    }
-    let outlets = left.outlets.saturating_add(right.outlets);
-    if outlets > 0 && said.own != 0 {
-        return Err(Refusal::OpenVolume {
-            volume: said.own,
-            at: at + 8,
-        });
-    }
-    // There is room: two have just been taken off.
-    let _ = waiting.push(Summary {
-        first: left.first,
-        outlets,
-    });
-    table.add(Node::Merge {
-        own: said.own,
-        water: 0,
-        cut: right.first,
-        left: said.left,
-        right: said.right,
-    });
-    Ok(())
+/// A record that was read, and the place in the file where it starts.
+#[derive(Clone, Copy)]
+pub(crate) struct Placed {
+    pub(crate) said: Record,
+    pub(crate) at: usize,
+    ghost fits: { at + 8 < 2 ^ 64 },
 }
 
-// Leaves have landings 0.
-fn leaf_landings(said: &Record, at: usize) -> Result<(), Refusal>
-    requires { at + 8 < 2 ^ 64 }
-    ensures { result ≡ verdict (first_no (ask (said.now.left == 0 && said.now.right == 0) (Landings said.now.left said.now.right (at + 2)) ∷ [])) tt }
-{
-    if said.left != 0 || said.right != 0 {
-        return Err(Refusal::Landings {
-            left: said.left,
-            right: said.right,
-            at: at + 2,
-        });
+impl Placed {
+    // Refuses its landings.
+    fn landings(&self) -> Refusal
+        ensures { result ≡ Landings self.now.said.left self.now.said.right (self.now.at + 2) }
+    {
+        Refusal::Landings {
+            left: self.said.left,
+            right: self.said.right,
+            at: self.at + 2,
+        }
     }
-    Ok(())
+
+    // Leaves have landings 0.
+    fn leaf_landings(&self) -> Result<(), Refusal>
+        ensures { result ≡ verdict (first_no (ask (self.now.said.left == 0 && self.now.said.right == 0) (Landings self.now.said.left self.now.said.right (self.now.at + 2)) ∷ [])) tt }
+    {
+        match (self.said.left, self.said.right) {
+            (0, 0) => Ok(()),
+            _ => Err(self.landings()),
+        }
+    }
 }
 
-/// Asks the tree's questions of a record that starts at `at`, and puts it into the table.
-pub(crate) fn grow(
-    table: &mut Table,
-    waiting: &mut Stack<'_, Summary>,
-    said: &Record,
-    at: usize,
-) -> Result<(), Refusal>
-    requires room { table.old.count < 1023 }
-    requires room_to_wait { length (stacked waiting.old) < capacity waiting.old }
-    requires place_fits { at + 8 < 2 ^ 64 }
-    ensures { Grew table.old table.new waiting.old waiting.new said.now at result }
-{
-    let first = table.count() as u16;
-    // There is room for a leaf, since no more subtrees wait than there are records before it.
-    match said.kind {
-        Kind::Merge => merge(table, waiting, said, at),
-        Kind::Basin => {
-            leaf_landings(said, at)?;
-            let _ = waiting.push(Summary { first, outlets: 0 });
-            table.add(Node::Basin {
-                own: said.own,
-                water: 0,
+impl Loading<'_> {
+    // Does a merge of two sides land on a leaf of each?
+    fn lands(&self, said: &Record, left: Summary, right: Summary) -> bool
+        ensures { result ≡ (leaf_among self.now.table.nodes said.now.left left.first right.first && leaf_among self.now.table.nodes said.now.right right.first self.now.table.count) }
+    {
+        let cut = usize::from(right.first);
+        let on_left = self
+            .table
+            .has_leaf(usize::from(said.left), usize::from(left.first), cut);
+        let on_right = self
+            .table
+            .has_leaf(usize::from(said.right), cut, self.table.count());
+        on_left && on_right
+    }
+
+    // A merge joins the two subtrees that were finished last.
+    fn merge(&mut self, placed: &Placed) -> Result<(), Refusal>
+        requires is_merge { placed.now.said.kind ≡ Merge }
+        requires place { self.old.table.count < 1023 }
+        ensures { Grew self.old self.new placed.now.said placed.now.at result }
+    {
+        let Placed { said, at } = *placed;
+        let waiting = self.waiting.len();
+        let (Some(right), Some(left)) = (self.waiting.pop(), self.waiting.pop()) else {
+            return Err(Refusal::Waiting { waiting, at });
+        };
+        if !self.lands(&said, left, right) {
+            return Err(placed.landings());
+        }
+        let outlets = left.outlets.saturating_add(right.outlets);
+        if outlets > 0 && said.own != 0 {
+            return Err(Refusal::OpenVolume {
+                volume: said.own,
+                at: at + 8,
             });
-            Ok(())
         }
-        Kind::Outlet => {
-            leaf_landings(said, at)?;
-            let _ = waiting.push(Summary { first, outlets: 1 });
-            table.add(Node::Outlet { water: 0 });
-            Ok(())
-        }
+        self.table.add(Node::Merge {
+            own: said.own,
+            water: 0,
+            cut: right.first,
+            left: said.left,
+            right: said.right,
+        });
+        // There is room: two have just been taken off.
+        let _ = self.waiting.push(Summary {
+            first: left.first,
+            outlets,
+        });
+        Ok(())
     }
-}
 
-/// Asks, after the last record, whether one subtree is left and whether it has one outlet.
-pub(crate) fn one_tree(waiting: &Stack<'_, Summary>, at: usize) -> Result<(), Refusal>
-    ensures { result ≡ verdict (first_no (end_seen at (stacked waiting.now))) tt }
-{
-    let found = waiting.len();
-    if found != 1 {
-        return Err(Refusal::Subtrees { waiting: found, at });
+    // A leaf is a subtree of its own.
+    fn leaf(&mut self, placed: &Placed, node: Node, outlets: u16) -> Result<(), Refusal>
+        requires { self.old.table.count < 1023 }
+        ensures answer { result ≡ verdict (first_no (ask (placed.now.said.left == 0 && placed.now.said.right == 0) (Landings placed.now.said.left placed.now.said.right (placed.now.at + 2)) ∷ [])) tt }
+        ensures table { is_ok result ≡ true → self.new.table ≡ record { nodes = slice_set self.old.table.nodes self.old.table.count node; count = self.old.table.count + 1 } }
+        ensures waiting { is_ok result ≡ true → self.new.waiting.items ≡ record { first = self.old.table.count; outlets = outlets } ∷ self.old.waiting.items }
+    {
+        placed.leaf_landings()?;
+        // `as` of a count below 1,023: `try_from` would add an error that cannot come.
+        let first = self.table.count() as u16;
+        self.table.add(node);
+        // There is room: fewer subtrees wait than there are records now.
+        let _ = self.waiting.push(Summary { first, outlets });
+        Ok(())
     }
-    let outlets = match waiting.top() {
-        Some(newest) => newest.outlets,
-        None => 0,
-    };
-    if outlets != 1 {
-        return Err(Refusal::Outlets { outlets, at });
+
+    /// Asks the tree's questions of a record, and puts it into the table.
+    pub(crate) fn grow(&mut self, placed: &Placed) -> Result<(), Refusal>
+        requires { self.old.table.count < 1023 }
+        ensures { Grew self.old self.new placed.now.said placed.now.at result }
+    {
+        match placed.said.kind {
+            Kind::Merge => self.merge(placed),
+            Kind::Basin => {
+                let own = placed.said.own;
+                self.leaf(placed, Node::Basin { own, water: 0 }, 0)
+            }
+            Kind::Outlet => self.leaf(placed, Node::Outlet { water: 0 }, 1),
+        }
     }
-    Ok(())
+
+    /// Asks, after the last record, whether one subtree is left and whether it has one outlet.
+    pub(crate) fn one_tree(&self, at: usize) -> Result<(), Refusal>
+        ensures { result ≡ verdict (first_no (end_seen at self.now.waiting.items)) tt }
+    {
+        let waiting = self.waiting.len();
+        if waiting != 1 {
+            return Err(Refusal::Subtrees { waiting, at });
+        }
+        let outlets = self.waiting.top().map_or(0, |newest| newest.outlets);
+        if outlets != 1 {
+            return Err(Refusal::Outlets { outlets, at });
+        }
+        Ok(())
+    }
 }

@@ -7,6 +7,8 @@ mod node;
 mod table;
 // Sums and heights in one pass over the records.
 mod measure;
+// What is kept while a file's records are loaded.
+mod loading;
 // One record more on the tree that is being loaded.
 mod grow;
 // Going through the records of a file.

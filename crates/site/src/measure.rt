@@ -1,23 +1,11 @@
 // Sums and heights, in one pass over the records.
 ghost use Rattle.std.specs.Prelude.{◌≡◌, ℕ, ◌+◌, ◌*◌, ◌^◌, ◌<◌, ◌≤◌, [], length, slice_index_or};
-ghost use Rattle.site.specs.Filling.{drained};
 ghost use Rattle.site.specs.Measures.{drained_sum, heights, heights_after, joined_heights, newest_height, own_in, own_sum};
 ghost use Rattle.site.specs.declared.node.Node.TheVariants.{Unused};
-ghost use Rattle.stack.specs.Stack.{capacity, stacked};
 
 use crate::node::Node;
 use crate::table::PLACES;
 use stack::Stack;
-
-// The own volume of a record.
-fn own_volume(node: &Node) -> u64
-    ensures { result ≡ own_in node.now }
-{
-    match node {
-        Node::Basin { own, .. } | Node::Merge { own, .. } => *own,
-        Node::Outlet { .. } | Node::Unused => 0,
-    }
-}
 
 /// The sum of the own volumes.
 pub(crate) fn total_volume(nodes: &[Node]) -> u64
@@ -25,21 +13,7 @@ pub(crate) fn total_volume(nodes: &[Node]) -> u64
     requires volumes_fit { (k : ℕ) → own_in (slice_index_or nodes.now k Unused) < 2 ^ 40 }
     ensures { result ≡ own_sum nodes.now }
 {
-    let mut sum = 0;
-    for node in nodes {
-        sum += own_volume(node);
-    }
-    sum
-}
-
-// The water that an outlet has taken; of any other record 0.
-fn drained_water(node: &Node) -> u64
-    ensures { result ≡ drained node.now }
-{
-    match node {
-        Node::Outlet { water } => *water,
-        Node::Unused | Node::Basin { .. } | Node::Merge { .. } => 0,
-    }
+    nodes.iter().map(Node::own_volume).sum()
 }
 
 /// The sum of what the outlets have taken.
@@ -47,31 +21,29 @@ pub(crate) fn total_outflow(nodes: &[Node]) -> u64
     requires { drained_sum nodes.now < 2 ^ 64 }
     ensures { result ≡ drained_sum nodes.now }
 {
-    let mut sum = 0;
-    for node in nodes {
-        sum += drained_water(node);
-    }
-    sum
+    nodes.iter().map(Node::drained_water).sum()
 }
 
 // A merge takes the place of the two newest subtrees, if there are two.
 fn join_heights(waiting: &mut Stack<'_, u16>)
-    ensures items { stacked waiting.new ≡ joined_heights (stacked waiting.old) }
-    ensures room { capacity waiting.new ≡ capacity waiting.old }
+    ensures items { waiting.new.items ≡ joined_heights waiting.old.items }
+    ensures room { waiting.new.room ≡ waiting.old.room }
 {
-    if waiting.len() < 2 {
+    let Some(right) = waiting.pop() else {
         return;
-    }
-    let right = waiting.pop().unwrap_or(0);
-    let left = waiting.pop().unwrap_or(0);
+    };
+    let Some(left) = waiting.pop() else {
+        let _ = waiting.push(right);
+        return;
+    };
     let _ = waiting.push(left.max(right).saturating_add(1));
 }
 
 // One record more: a leaf is a subtree of height 0, a merge is one higher than the higher of its sides.
 fn add_height(waiting: &mut Stack<'_, u16>, node: &Node)
-    requires { length (stacked waiting.old) < capacity waiting.old }
-    ensures items { stacked waiting.new ≡ heights_after node.now (stacked waiting.old) }
-    ensures room { capacity waiting.new ≡ capacity waiting.old }
+    requires { length waiting.old.items < waiting.old.room }
+    ensures items { waiting.new.items ≡ heights_after node.now waiting.old.items }
+    ensures room { waiting.new.room ≡ waiting.old.room }
 {
     match node {
         Node::Unused => {}
@@ -87,13 +59,10 @@ pub(crate) fn tree_height(nodes: &[Node]) -> u16
     requires { length nodes.now ≤ 1023 }
     ensures { result ≡ newest_height (heights nodes.now []) }
 {
-    let mut slots = [0u16; PLACES];
+    let mut slots = [0; PLACES];
     let mut waiting = Stack::new(&mut slots);
     for node in nodes {
         add_height(&mut waiting, node);
     }
-    match waiting.top() {
-        Some(height) => height,
-        None => 0,
-    }
+    waiting.top().unwrap_or(0)
 }

@@ -1,14 +1,10 @@
 -- What a stack means: the list of its items, the newest first.
-use Rattle.std.specs.Prelude.{◌≡◌, ℕ, ◌<◌, ◌≤◌, List, [], ◌∷◌, reverse, length, take, Some, None, Ok, Err, Option, Result}
-use Rattle.stack.specs.declared.stack.Stack.{Stack}
+use Rattle.std.specs.Prelude.{◌≡◌, ℕ, ◌<◌, ◌≤◌, List, [], ◌∷◌, length, Some, None, Ok, Err, Option, Result}
 
--- The items on a stack, the newest first.
-abbrev pub stacked : {T : Type 0} → Stack T → List T
-stacked s = reverse (take s.count s.items.now)
-
--- How many items a stack can hold.
-abbrev pub capacity : {T : Type 0} → Stack T → ℕ
-capacity s = length s.items.now
+-- The items on a stack, the newest first, and how many it can hold.
+pub record Contents (T : Type 0) : Type 0 where
+  pub items : List T
+  pub room : ℕ
 
 -- The newest of the items, if there is one.
 abbrev pub newest : {T : Type 0} → List T → Option T

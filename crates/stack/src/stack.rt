@@ -1,5 +1,5 @@
 // A stack over a slice that the caller lends: it holds as many items as the slice has places.
-ghost use Rattle.std.specs.Prelude.{◌≤◌, length};
+use std::marker::Model;
 
 // What can be done with a stack.
 mod ops;
@@ -9,5 +9,15 @@ mod ops;
 pub struct Stack<'a, T> {
     items: &'a mut [T],
     count: usize,
-    ghost within: { count ≤ length items.now },
+}
+
+impl<'a, T> Model for Stack<'a, T> {
+    ghost use Rattle.std.specs.Prelude.{◌≤◌, length, reverse, take};
+    ghost use Rattle.stack.specs.Stack.{Contents};
+
+    ghost Value = { Contents T };
+
+    ghost view = { λ s. record { items = reverse (take s.count s.items.now); room = length s.items.now } };
+
+    ghost invariant = { λ s. s.count ≤ length s.items.now };
 }

@@ -24,9 +24,9 @@ impl Table {
     pub(crate) fn lone_outlet() -> Table
         ensures { result ≡ tabled (outlet 0 0) }
     {
-        let mut nodes = [Node::Unused; PLACES];
-        nodes[0] = Node::Outlet { water: 0 };
-        Table { nodes, count: 1 }
+        let mut table = Table::unused();
+        table.add(Node::Outlet { water: 0 });
+        table
     }
 
     // Puts a record into the next place.
@@ -51,23 +51,13 @@ impl Table {
         requires { self.now.count ≤ 1023 }
         ensures { result.now ≡ take self.now.count self.now.nodes }
     {
-        &self.nodes[0..self.count]
+        &self.nodes[..self.count]
     }
 
     // Is record k, of those from `from` up to before `to`, a leaf?
     pub(crate) fn has_leaf(&self, k: usize, from: usize, to: usize) -> bool
         ensures { result ≡ leaf_among self.now.nodes k from to }
     {
-        if k < from || k >= to {
-            return false;
-        }
-        if k >= PLACES {
-            return false;
-        }
-        let node = self.nodes[k];
-        match node {
-            Node::Basin { .. } | Node::Outlet { .. } => true,
-            Node::Unused | Node::Merge { .. } => false,
-        }
+        (from..to).contains(&k) && self.nodes.get(k).is_some_and(Node::is_leaf)
     }
 }

@@ -17,20 +17,23 @@ fn fill_room(own: u64, water: &mut u64, litres: u64) -> u64
     litres - taken
 }
 
-// Lets a record take what it has room for, and answers the rest.
-fn fill_up(node: &mut Node, litres: u64) -> u64
-    requires { drained node.old + litres < 2 ^ 64 }
-    ensures water { node.new ≡ filled_node litres node.old }
-    ensures rest { result ≡ over_node litres node.old }
-{
-    match node {
-        Node::Unused => litres,
-        Node::Basin { own, water } => fill_room(*own, water, litres),
-        Node::Outlet { water } => {
-            *water += litres;
-            0
+impl Node {
+    // Takes what there is room for, and answers the rest.
+    fn fill_up(&mut self, litres: u64) -> u64
+        requires { drained self.old + litres < 2 ^ 64 }
+        ensures water { self.new ≡ filled_node litres self.old }
+        ensures rest { result ≡ over_node litres self.old }
+    {
+        match self {
+            Node::Unused => litres,
+            Node::Outlet { water } => {
+                *water += litres;
+                0
+            }
+            // Two arms: a `&mut` that is one of two borrows, by the arm taken, gets no generated proof.
+            Node::Basin { own, water } => fill_room(*own, water, litres),
+            Node::Merge { own, water, .. } => fill_room(*own, water, litres),
         }
-        Node::Merge { own, water, .. } => fill_room(*own, water, litres),
     }
 }
 
@@ -48,19 +51,20 @@ fn sides_from(leaf: usize, root: usize, cut: u16, left: u16, right: u16) -> Side
     requires has_right { 0 < root }
     ensures { SidesFrom leaf root cut left right result.first result.second result.landing }
 {
-    let below_left = cut as usize - 1;
+    let cut = usize::from(cut);
+    let below_left = cut - 1;
     let below_right = root - 1;
-    if leaf < cut as usize {
+    if leaf < cut {
         Sides {
             first: below_left,
             second: below_right,
-            landing: right as usize,
+            landing: usize::from(right),
         }
     } else {
         Sides {
             first: below_right,
             second: below_left,
-            landing: left as usize,
+            landing: usize::from(left),
         }
     }
 }
@@ -74,7 +78,7 @@ impl Table {
         ensures count { self.new.count ≡ self.old.count }
         ensures rest { result ≡ over_node litres (slice_index_or self.old.nodes i Unused) }
     {
-        fill_up(&mut self.nodes[i], litres)
+        self.nodes[i].fill_up(litres)
     }
 
     // Pours litres at a leaf of the subtree below `root`, and answers what leaves the subtree: the side that has the

@@ -6,27 +6,21 @@ ghost use Rattle.site.specs.Surveys.{joined};
 use super::Table;
 use crate::node::{Node, Survey};
 
-// What is seen of a merge from its two sides: with both of them full it is one pool, else the level is that of the
-// side that has the leaf.
-fn join(left: Survey, right: Survey, own: u64, water: u64, on_left: bool) -> Survey
-    requires { left.held + right.held + water < 2 ^ 64 }
-    ensures { result ≡ joined left right own water on_left }
-{
-    let held = left.held + right.held + water;
-    let pool = left.full && right.full;
-    let full = pool && water == own;
-    if pool {
-        return Survey {
-            full,
+impl Survey {
+    // What is seen of a merge from its two sides, this one to the left: with both of them full it is one pool, else
+    // the level is that of the side that has the leaf.
+    fn joined(self, right: Survey, own: u64, water: u64, on_left: bool) -> Survey
+        requires { self.held + right.held + water < 2 ^ 64 }
+        ensures { result ≡ joined self right own water on_left }
+    {
+        let held = self.held + right.held + water;
+        let pool = self.full && right.full;
+        let side = if on_left { self.level } else { right.level };
+        Survey {
+            full: pool && water == own,
             held,
-            level: held,
-        };
-    }
-    let side = if on_left { left.level } else { right.level };
-    Survey {
-        full,
-        held,
-        level: side,
+            level: if pool { held } else { side },
+        }
     }
 }
 
@@ -39,11 +33,7 @@ impl Table {
     {
         let node = self.nodes[root];
         match node {
-            Node::Unused => Survey {
-                full: false,
-                held: 0,
-                level: 0,
-            },
+            Node::Unused => Survey::default(),
             Node::Basin { own, water } => Survey {
                 full: water == own,
                 held: water,
@@ -60,9 +50,10 @@ impl Table {
                 cut,
                 ..
             } => {
-                let left = self.survey(cut as usize - 1, leaf);
+                let cut = usize::from(cut);
+                let left = self.survey(cut - 1, leaf);
                 let right = self.survey(root - 1, leaf);
-                join(left, right, own, water, leaf < cut as usize)
+                left.joined(right, own, water, leaf < cut)
             }
         }
     }

@@ -1,17 +1,8 @@
-use Rattle.std.proofs.Common.{arith}
-use Rattle.std.proofs.lemmas.List.{at_drop_all, at_drop_more}
-use Rattle.site.specs.Measures.{own_sum}
-use Rattle.site.specs.declared.node.Node.TheVariants.{Unused}
+use Rattle.std.proofs.Common.{rules}
+use Rattle.site.proofs.Measured.{volumes_fit}
 use Rattle.site.proofs.measure.total_volume.Goals as goal
 
-pub loop-node-preserved : goal.loop-node-preserved
-loop-node-preserved c =
-    let s = at_drop_more own_sum c.args.nodes.now c.loop-node.node-index Unused c.loop-node-test.true in
-    let e = c.own_volume-sum.ensures in
-    let b = c.requires.volumes_fit c.loop-node.node-index in
-    omega arith
-
-pub returns : goal.returns
-returns c =
-    let s = at_drop_all own_sum c.args.nodes.now c.loop-node.node-index c.loop-node-test.false in
-    omega arith
+pub sum-requires-clause-fits : goal.sum-requires-clause-fits
+sum-requires-clause-fits c =
+    let fit = volumes_fit c.args.nodes.now c.requires.few c.requires.volumes_fit in
+    search rules

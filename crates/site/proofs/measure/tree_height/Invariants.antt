@@ -1,11 +1,10 @@
 use Rattle.std.proofs.Common.{◌≡◌, ◌≤◌, [], length, drop}
-use Rattle.stack.specs.Stack.{capacity, stacked}
 use Rattle.site.specs.Measures.{heights}
 use Rattle.site.proofs.measure.tree_height.Given as goal
 
 -- The heights that wait and the records that are left give the heights of all.
 abbrev pub invariant-loop-node : goal.invariant-loop-node
 invariant-loop-node l =
-    (heights (drop l.node-index l.nodes) (stacked l.waiting) ≡ heights l.nodes [])
-    × (length (stacked l.waiting) ≤ l.node-index)
-    × (capacity l.waiting ≡ 1023)
+    (heights (drop l.node-index l.nodes) l.waiting.items ≡ heights l.nodes [])
+    × (length l.waiting.items ≤ l.node-index)
+    × (l.waiting.room ≡ 1023)
