@@ -1,5 +1,5 @@
 -- A table shows the tree that it holds.
-use Rattle.std.proofs.Common.{◌≡◌, ℕ, zero, suc, ◌+◌, ◌-◌, List, [], ◌∷◌, ◌++◌, replicate, sym, refl, ap, ◌∙◌, subst, arith}
+use Rattle.std.proofs.Common.{◌≡◌, ℕ, zero, suc, ◌+◌, ◌-◌, List, [], ◌∷◌, ◌++◌, replicate, sym, refl, ap, ◌∙◌, subst, append-nil, arith}
 use Rattle.std.proofs.lemmas.List.{append_assoc}
 use Rattle.water.specs.Tree.{Tree, basin, outlet, merge, size}
 use Rattle.water.specs.Formed.{Numbered}
@@ -33,6 +33,13 @@ unused_read (suc k) i s = unused_read k (i + 1) s
 
 table_read : (t : Tree) → Numbered 0 t → read_from 0 (table_of t) [] ≡ t ∷ []
 table_read t h = reads_back t 0 (replicate (1023 - size t) Unused) [] h ∙ unused_read (1023 - size t) (0 + size t) (t ∷ [])
+
+-- Records spell no other tree.
+pub one_tree : (t u : Tree) → Numbered 0 t → Numbered 0 u → records t ≡ records u → t ≡ u
+one_tree t u ht hu e =
+    let read = λ (x : Tree) (h : Numbered 0 x). ap (λ (xs : List Node). read_from 0 xs []) (sym (append-nil (records x))) ∙ reads_back x 0 [] [] h in
+    let s : t ∷ [] ≡ u ∷ [] = sym (read t ht) ∙ ap (λ (xs : List Node). read_from 0 xs []) e ∙ read u hu in
+    cc
 
 -- The table of a tree spells that tree.
 pub tree_on_table : (t : Tree) → Numbered 0 t → tree_on (table_of t) ≡ t

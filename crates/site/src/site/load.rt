@@ -43,12 +43,7 @@ impl Site {
         ensures loaded { is_ok result ≡ true → Loaded file.now self.new }
         ensures kept { is_ok result ≡ false → self.new ≡ self.old }
     {
-        match read_site(file) {
-            Err(refusal) => Err(refusal),
-            Ok(site) => {
-                *self = site;
-                Ok(())
-            }
-        }
+        *self = read_site(file)?;
+        Ok(())
     }
 }

@@ -1,6 +1,7 @@
 // What a site is made of: its records, their total volume and the height of its tree.
 ghost use Rattle.site.specs.Records.{records};
-ghost use Rattle.water.specs.Tree.{height, volume};
+ghost use Rattle.water.specs.Formed.{Numbered};
+ghost use Rattle.water.specs.Tree.{Tree, height, volume};
 ghost use Rattle.std.specs.Prelude.{◌≡◌};
 
 use super::Site;
@@ -8,9 +9,10 @@ use crate::measure::{total_volume, tree_height};
 use crate::node::Node;
 
 impl Site {
-    /// The records in order, numbered from 0.
+    /// The records in order, numbered from 0. No other tree has these records.
     pub fn records(&self) -> &[Node]
-        ensures { result.now ≡ records self.now.tree }
+        ensures answer { result.now ≡ records self.now.tree }
+        ensures only { (t : Tree) → Numbered 0 t → records t ≡ result.now → t ≡ self.now.tree }
     {
         self.table.used()
     }

@@ -17,7 +17,7 @@ returns-in-Ok c =
     let v = verdict_ok (first_no (questions file)) (c.in-Ok.trailer, c.in-Ok.site) (trailer_of (length file) (tail_of file), untouched (tree_in file)) c.in-Ok.ensures in
     let s = ap (λ p. p.1.tree) v.1 in
     let e = site_told file c.in-Ok.trailer c.records.result.now c.volume.result c.height.result (ap (λ p. p.0) v.1)
-    (c.records.ensures ∙ ap records s) (c.volume.ensures ∙ ap volume s) (c.height.ensures ∙ ap height s) in
+    (c.records.ensures.answer ∙ ap records s) (c.volume.ensures ∙ ap volume s) (c.height.ensures ∙ ap height s) in
     made_as string_bytes c.to_string.result (e ∙ told_accepted file v.0) c.to_string.ensures.ok
 
 pub returns-in-Err : goal.returns-in-Err
