@@ -1,5 +1,5 @@
 -- The number that digits write.
-use Rattle.std.proofs.Common.{◌≡◌, ℕ, ◌<◌, ◌≤◌, List, length, get_or, Ok, Err, Result, sym, ◌∙◌, arith, rules}
+use Rattle.std.proofs.Common.{◌≡◌, ◌↔◌, ℕ, ◌<◌, ◌≤◌, List, length, get_or, Ok, Err, Result, sym, ◌∙◌, arith, rules}
 use Rattle.std.proofs.lemmas.Str.{IsUtf8-from_ascii}
 use Rattle.std.proofs.lemmas.Str.Ascii.{IsAscii-from_reads}
 use Rattle.std.proofs.lemmas.Str.Parse.{IsNumeralModel, digits_value_short, numerals_by_weight, parse_digits, tells_by_index}
@@ -10,23 +10,24 @@ use Rattle.std.specs.Str.Parse.{ParsesUnsigned}
 use Rattle.console.specs.Grammar.{Digits, Numeral, value_of}
 use Rattle.console.specs.Parts.{ReadsNumber}
 
--- The library's words for digits say the same, over the whole and byte by byte.
+-- The library's words for digits say the same.
 numerals : IsNumeralModel Digits value_of
 numerals = numerals_by_weight Digits (search rules) value_of (search rules)
 
-each : IsNumeralModel (λ bs. (i : ℕ) → i < length bs → IsInRange 48 57 (get_or bs i 0)) value_of
-each = numerals_by_weight (λ bs. (i : ℕ) → i < length bs → IsInRange 48 57 (get_or bs i 0)) tells_by_index value_of (search rules)
+-- So do ours, byte by byte.
+abbrev pub EachDigit : List ℕ → Type 0
+EachDigit bs = (i : ℕ) → i < length bs → IsInRange 48 57 (get_or bs i 0)
 
-pub digit_at : (bs : List ℕ) → Digits bs → (i : ℕ) → i < length bs → IsInRange 48 57 (get_or bs i 0)
-digit_at bs d = each.from bs (numerals.to bs d)
+each : IsNumeralModel EachDigit value_of
+each = numerals_by_weight EachDigit tells_by_index value_of (search rules)
 
-pub all_digits : (bs : List ℕ) → ((i : ℕ) → i < length bs → IsInRange 48 57 (get_or bs i 0)) → Digits bs
-all_digits bs h = numerals.from bs (each.to bs h)
+pub digit_by_digit : (bs : List ℕ) → EachDigit bs ↔ Digits bs
+digit_by_digit bs = (λ h. numerals.from bs (each.to bs h), λ d. each.from bs (numerals.to bs d))
 
 -- Digits are text.
 pub digits_are_text : (bs : List ℕ) → Digits bs → IsUtf8 bs
 digits_are_text bs d =
-    IsUtf8-from_ascii bs (IsAscii-from_reads bs (length bs) (omega arith) (λ k h. omega (arith, digit_at bs d k h)))
+    IsUtf8-from_ascii bs (IsAscii-from_reads bs (length bs) (omega arith) (λ k h. omega (arith, (digit_by_digit bs).1 d k h)))
 
 -- What the library parses of at most 19 digits is the number that they write.
 pub parsed : {E : Type 0} (bs : List ℕ) (r : Result ℕ E) → ParsesUnsigned 64 10 bs r → Digits bs → length bs ≤ 19 → ReadsNumber bs (result_ok r)

@@ -18,10 +18,7 @@ pub const LONGEST_FILE: usize = 17_404;
 fn readable(file: &[u8]) -> &[u8]
     ensures { result.now ≡ counted file.now }
 {
-    if file.len() > LONGEST_FILE {
-        return &file[0..0];
-    }
-    file
+    if file.len() > LONGEST_FILE { &[] } else { file }
 }
 
 /// Loads the site's file. A refusal is answered with the line that tells its number, and changes nothing.
