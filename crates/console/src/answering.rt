@@ -24,10 +24,7 @@ fn reply_to(site: &mut Site, line: &[u8]) -> Reply
             site.rain(leaf, litres)?;
             Ok(Answer::Done)
         }
-        Command::Level { leaf } => {
-            let level = site.level(leaf)?;
-            Ok(Answer::Level(level))
-        }
+        Command::Level { leaf } => Ok(Answer::Level(site.level(leaf)?)),
         Command::Totals => Ok(Answer::Totals(site.totals())),
     }
 }

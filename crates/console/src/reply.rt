@@ -26,13 +26,9 @@ impl fmt::Display for Answer {
     fn fmt<W: fmt::Write>(&self, f: &mut fmt::Formatter<W>) -> fmt::Result {
         match self {
             Answer::Done => write!(f, "ok"),
-            Answer::Level(level) => write!(f, "{}", level.0),
+            Answer::Level(level) => write!(f, "{level}"),
             Answer::Totals(sums) => {
-                write!(
-                    f,
-                    "{} {} {}",
-                    sums.accepted.0, sums.outflow.0, sums.pumped.0
-                )
+                write!(f, "{} {} {}", sums.accepted, sums.outflow, sums.pumped)
             }
         }
     }
