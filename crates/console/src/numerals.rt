@@ -20,6 +20,7 @@ pub(crate) fn number(bytes: &[u8]) -> Option<u64>
     if bytes.len() > MOST_DIGITS || !are_digits(bytes) {
         return None;
     }
+    // Digits are always text, and only the empty text is no number here.
     let digits = str::from_utf8(bytes).unwrap();
     digits.parse::<u64>().ok()
 }

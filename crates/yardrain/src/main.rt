@@ -11,7 +11,7 @@ fn converse(rt: &HostRuntime, site: &mut Site) -> anyhow::Result<()> {
     let mut input = BufReader::new(rt.alloc(), rt.stdin())?;
     let mut output = BufWriter::new(rt.alloc(), rt.stdout())?;
     let mut line = Vec::new(rt.alloc());
-    // To flush before a read that waits, each turn asks the buffer first: the library's `split` has no place for that.
+    // Not `split`, which leaves no place to flush before a read that waits; nor `loop`, which would have to end.
     for _ in 0..u64::MAX {
         if input.buffer().is_empty() {
             output.flush()?;
