@@ -1,60 +1,23 @@
 -- Which command a line spells, by its first bytes.
-use Rattle.std.proofs.Common.{◌≡◌, ℕ, ◌-◌, ◌≤◌, List, [], ◌∷◌, length, get_or, take, drop, Some, None, sym, refl, ap, ◌∙◌, subst, arith}
-use Rattle.std.proofs.lemmas.List.{take_rest}
-use Rattle.console.specs.Grammar.{Numeral, Reads, Spells, TwoNumerals}
-use Rattle.console.specs.Parts.{ReadsNumber, ReadsTwo}
+use Rattle.std.proofs.Common.{◌≡◌, ℕ, List, ◌∷◌, Some, None, Option, refl, subst, arith}
+use Rattle.console.specs.Grammar.{Reads, Spells, TwoNumerals}
+use Rattle.console.specs.Parts.{ReadsTwo}
 use Rattle.console.specs.declared.command.Command.{Command}
 use Rattle.console.specs.declared.command.Command.TheVariants.{Rain, Level, Totals}
-use Rattle.console.proofs.Values.{one_value}
 
--- Rain, and the level, over numbers.
-abbrev rain : ℕ → ℕ → Command
+-- Rain over numbers.
+abbrev pub rain : ℕ → ℕ → Command
 rain m n = Rain (record { 0 = m }) (record { 0 = n })
-
-abbrev level_over : ℕ → Command
-level_over n = Level (record { 0 = n })
-
--- A line of one byte is that byte.
-pub one_byte : (line : List ℕ) (b : ℕ) → length line ≡ 1 → get_or line 0 0 ≡ b → line ≡ b ∷ []
-one_byte [] b h e = absurd (omega arith)
-one_byte (a ∷ []) b h e = ap (λ (n : ℕ). n ∷ []) e
-one_byte (a ∷ c ∷ rest) b h e = absurd (omega arith)
-
--- A line of two bytes or more is its first two and the rest.
-pub two_and_rest : (line : List ℕ) (a b : ℕ) → 2 ≤ length line → get_or line 0 0 ≡ a → get_or line 1 0 ≡ b → line ≡ a ∷ b ∷ take (length line - 2) (drop 2 line)
-two_and_rest [] a b h p q = absurd (omega arith)
-two_and_rest (c ∷ []) a b h p q = absurd (omega arith)
-two_and_rest (c ∷ d ∷ rest) a b h p q =
-    let e = take_rest (c ∷ d ∷ rest) 2 in cc
-
--- The line `O` is read as the totals.
-pub totals_read : (line : List ℕ) → line ≡ 79 ∷ [] → Reads line (Some Totals)
-totals_read line e = (e, only)
-  where
-    only : (d : Command) → Spells line d → d ≡ Totals
-    only (Rain leaf litres) s = absurd (omega (arith, ap length (sym s.2 ∙ e)))
-    only (Level leaf) s = absurd (omega (arith, ap length (sym s.2 ∙ e)))
-    only Totals s = refl
-
--- Lines that begin alike have the same letter, and the same after it.
-same_line : (line xs ys : List ℕ) (a b : ℕ) → line ≡ a ∷ 32 ∷ xs → line ≡ b ∷ 32 ∷ ys → (a ≡ b) × (xs ≡ ys)
-same_line line xs ys a b p q = (cc, cc)
 
 -- A line that begins `R ` spells nothing but rain.
 only_rain : (line rest : List ℕ) → line ≡ 82 ∷ 32 ∷ rest → (d : Command) → Spells line d → (m : ℕ) × (n : ℕ) × TwoNumerals rest m n × (d ≡ rain m n)
 only_rain line rest e (Rain leaf litres) s =
     let P : List ℕ → Type 0 = λ l. TwoNumerals l leaf.0 litres.0 in
-    (leaf.0, litres.0, subst P (same_line line s.0 rest 82 82 s.2 e).1 s.1, refl)
-only_rain line rest e (Level leaf) s = absurd (omega (arith, (same_line line s.0 rest 76 82 s.2 e).0))
-only_rain line rest e Totals s = absurd (omega (arith, ap length (sym s ∙ e)))
-
--- A line that begins `L ` spells nothing but the level.
-only_level : (line rest : List ℕ) → line ≡ 76 ∷ 32 ∷ rest → (d : Command) → Spells line d → (n : ℕ) × Numeral rest n × (d ≡ level_over n)
-only_level line rest e (Rain leaf litres) s = absurd (omega (arith, (same_line line s.0 rest 82 76 s.2 e).0))
-only_level line rest e (Level leaf) s =
-    let P : List ℕ → Type 0 = λ l. Numeral l leaf.0 in
-    (leaf.0, subst P (same_line line s.0 rest 76 76 s.2 e).1 s.1, refl)
-only_level line rest e Totals s = absurd (omega (arith, ap length (sym s ∙ e)))
+    let same : s.0 ≡ rest = cc (s.2, e) in
+    (leaf.0, litres.0, subst P same s.1, refl)
+only_rain line rest e (Level leaf) s =
+    let letter : ◌≡◌ {A = ℕ} 76 82 = cc (s.2, e) in absurd (omega arith)
+only_rain line rest e Totals s = cc (s, e)
 
 -- `R ` is followed by two numbers, or the line spells nothing.
 pub rain_read : (line rest : List ℕ) (m n : ℕ) → line ≡ 82 ∷ 32 ∷ rest → ReadsTwo rest (Some (m, n)) → Reads line (Some (rain m n))
@@ -64,19 +27,11 @@ rain_read line rest m n e r = ((rest, r.0, e), only)
     only d s =
         let u = only_rain line rest e d s in
         let v = r.1 u.0 u.1 u.2 in
-        u.3 ∙ ap (λ (k : ℕ). rain k u.1) v.0 ∙ ap (λ (k : ℕ). rain m k) v.1
+        cc (u.3, v.0, v.1)
 
 pub rain_not_read : (line rest : List ℕ) → line ≡ 82 ∷ 32 ∷ rest → ReadsTwo rest None → Reads line None
 rain_not_read line rest e r d s = let u = only_rain line rest e d s in r u.0 u.1 u.2
 
--- `L ` is followed by one number, or the line spells nothing.
-pub level_read : (line rest : List ℕ) (n : ℕ) → line ≡ 76 ∷ 32 ∷ rest → ReadsNumber rest (Some n) → Reads line (Some (level_over n))
-level_read line rest n e r = ((rest, r, e), only)
-  where
-    only : (d : Command) → Spells line d → d ≡ level_over n
-    only d s =
-        let u = only_level line rest e d s in
-        u.2 ∙ ap level_over (one_value rest u.0 n u.1 r)
-
-pub level_not_read : (line rest : List ℕ) → line ≡ 76 ∷ 32 ∷ rest → ReadsNumber rest None → Reads line None
-level_not_read line rest e r d s = let u = only_level line rest e d s in r u.0 u.1
+-- A command that is read is a reading.
+pub is_read : (line : List ℕ) (c : Command) → Reads line (Some c) → (o : Option Command) × Reads line o
+is_read line c r = (Some c, r)

@@ -1,5 +1,5 @@
 -- What a line is answered with, and the state that it leaves.
-use Rattle.std.specs.Prelude.{Some, None, Option}
+use Rattle.std.specs.Prelude.{Some, None, Ok, Err, Option, Result}
 use Rattle.questions.specs.Ask.{first_no}
 use Rattle.water.specs.Calls.{level_questions, rain_questions, rained_on}
 use Rattle.water.specs.Level.{level}
@@ -7,22 +7,23 @@ use Rattle.water.specs.State.{State, litres, totals}
 use Rattle.water.specs.declared.refusal.Refusal.{Refusal as WaterRefusal}
 use Rattle.console.specs.declared.command.Command.{Command}
 use Rattle.console.specs.declared.command.Command.TheVariants.{Rain, Level, Totals}
+use Rattle.console.specs.declared.refusal.Refusal.{Refusal}
 use Rattle.console.specs.declared.refusal.Refusal.TheVariants.{NotWellFormed, Water}
-use Rattle.console.specs.declared.reply.Reply.{Reply}
-use Rattle.console.specs.declared.reply.Reply.TheVariants as reply
+use Rattle.console.specs.declared.reply.Answer.{Answer}
+use Rattle.console.specs.declared.reply.Answer.TheVariants as answer
 
 -- What a call is answered with: its refusal if there is one.
-abbrev pub reply_or : Option WaterRefusal → Reply → Reply
-reply_or None answer = answer
-reply_or (Some r) answer = reply.Refused (Water r)
+abbrev pub reply_or : Option WaterRefusal → Answer → Result Answer Refusal
+reply_or None a = Ok a
+reply_or (Some r) a = Err (Water r)
 
 -- The reply to a line: a line that spells no command is not well formed; a call is refused by its first question
 -- answered no; accepted rain is done, and the level and the totals are told.
-abbrev pub reply_to : Option Command → State → Reply
-reply_to None s = reply.Refused NotWellFormed
-reply_to (Some (Rain a v)) s = reply_or (first_no (rain_questions a v s)) reply.Done
-reply_to (Some (Level a)) s = reply_or (first_no (level_questions a s)) (reply.Level (litres (level a.0 s.tree)))
-reply_to (Some Totals) s = reply.Totals (totals s)
+abbrev pub reply_to : Option Command → State → Result Answer Refusal
+reply_to None s = Err NotWellFormed
+reply_to (Some (Rain a v)) s = reply_or (first_no (rain_questions a v s)) answer.Done
+reply_to (Some (Level a)) s = reply_or (first_no (level_questions a s)) (answer.Level (litres (level a.0 s.tree)))
+reply_to (Some Totals) s = Ok (answer.Totals (totals s))
 
 -- The state that rain leaves: nothing changes where it is refused.
 abbrev pub state_or : Option WaterRefusal → State → State → State

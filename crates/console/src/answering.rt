@@ -8,39 +8,24 @@ ghost use Rattle.std.specs.Prelude.{◌≡◌, IfOk, Some as Just, string_bytes,
 ghost use Rattle.water.specs.State.{State};
 
 use crate::command::Command;
-use crate::line::parse;
-use crate::refusal::Refusal;
-use crate::reply::{Reply, reply_text};
+use crate::reply::{Answer, Reply};
 use site::Site;
 use std::alloc::{AllocError, Global};
 
-// Does what a command asks of the site.
-fn obey(site: &mut Site, command: Command) -> Reply
-    ensures reply { (s : State) → Shows site.old s → result ≡ reply_to (Just command) s }
-    ensures state { (s : State) → Shows site.old s → Shows site.new (after (Just command) s) }
-{
-    match command {
-        Command::Rain { leaf, litres } => match site.rain(leaf, litres) {
-            Ok(()) => Reply::Done,
-            Err(refusal) => Reply::Refused(Refusal::Water(refusal)),
-        },
-        Command::Level { leaf } => match site.level(leaf) {
-            Ok(level) => Reply::Level(level),
-            Err(refusal) => Reply::Refused(Refusal::Water(refusal)),
-        },
-        Command::Totals => Reply::Totals(site.totals()),
-    }
-}
-
 // Does what a line asks of the site, if it is well formed.
+#[tactic(auto, using(crate::proofs::Spelling::is_read))]
 fn reply_to(site: &mut Site, line: &[u8]) -> Reply
     ensures read { (c : Maybe Asked) × Reads line.now c }
     ensures reply { (c : Maybe Asked) (s : State) → Reads line.now c → Shows site.old s → result ≡ reply_to c s }
     ensures state { (c : Maybe Asked) (s : State) → Reads line.now c → Shows site.old s → Shows site.new (after c s) }
 {
-    match parse(line) {
-        Some(command) => obey(site, command),
-        None => Reply::Refused(Refusal::NotWellFormed),
+    match Command::try_from(line)? {
+        Command::Rain { leaf, litres } => {
+            site.rain(leaf, litres)?;
+            Ok(Answer::Done)
+        }
+        Command::Level { leaf } => Ok(Answer::Level(site.level(leaf)?)),
+        Command::Totals => Ok(Answer::Totals(site.totals())),
     }
 }
 
@@ -51,6 +36,8 @@ pub fn answer(heap: Global, site: &mut Site, line: &[u8]) -> Result<String, Allo
     ensures text { (c : Maybe Asked) (s : State) → Reads line.now c → Shows site.old s → IfOk result (λ t. string_bytes t ≡ reply_bytes (reply_to c s)) }
     ensures state { (c : Maybe Asked) (s : State) → Reads line.now c → Shows site.old s → Shows site.new (after c s) }
 {
-    let reply = reply_to(site, line);
-    reply_text(heap, &reply)
+    match reply_to(site, line) {
+        Ok(answer) => format!(in heap; "{answer}\n"),
+        Err(refusal) => format!(in heap; "{refusal}\n"),
+    }
 }

@@ -8,7 +8,6 @@ ghost use Rattle.std.specs.Option.{option_map};
 ghost use Rattle.terrain.specs.declared.refusal.Refusal.{Refusal as WhyNot};
 
 use crate::refusal::Refusal;
-use crate::reply::{Reply, reply_text};
 use site::Site;
 use std::alloc::{AllocError, Global};
 
@@ -19,10 +18,7 @@ pub const LONGEST_FILE: usize = 17_404;
 fn readable(file: &[u8]) -> &[u8]
     ensures { result.now ≡ counted file.now }
 {
-    if file.len() > LONGEST_FILE {
-        return &file[0..0];
-    }
-    file
+    if file.len() > LONGEST_FILE { &[] } else { file }
 }
 
 /// Loads the site's file. A refusal is answered with the line that tells its number, and changes nothing.
@@ -34,7 +30,8 @@ pub fn begin(heap: Global, site: &mut Site, file: &[u8]) -> Result<Option<String
     match site.load(readable(file)) {
         Ok(()) => Ok(None),
         Err(refusal) => {
-            let text = reply_text(heap, &Reply::Refused(Refusal::File(refusal)))?;
+            let refusal = Refusal::from(refusal);
+            let text = format!(in heap; "{refusal}\n")?;
             Ok(Some(text))
         }
     }

@@ -20,7 +20,7 @@ pub use refusal::Refusal;
 // What a line is answered with.
 mod reply;
 
-pub use reply::Reply;
+pub use reply::{Answer, Reply};
 
 // The site that the console begins with.
 mod beginning;

@@ -1,8 +1,11 @@
 // Why a line of the console, or the file that it begins with, is refused.
 ghost use Rattle.console.specs.Case.{case_of};
-ghost use Rattle.std.specs.Prelude.{◌≡◌};
+ghost use Rattle.console.specs.Reply.{refusal_text};
+ghost use Rattle.console.specs.declared.refusal.Refusal.TheVariants.{Water, File};
+ghost use Rattle.std.specs.Prelude.{◌≡◌, Some as Just};
 
 use questions::Layer;
+use std::fmt;
 use terrain::Refusal as FileRefusal;
 use water::Refusal as WaterRefusal;
 
@@ -49,5 +52,30 @@ impl Refusal {
             Refusal::Water(refusal) => refusal.place(),
             Refusal::File(refusal) => refusal.place(),
         }
+    }
+}
+
+impl From<WaterRefusal> for Refusal {
+    ghost from_gives = { λ why refusal. refusal ≡ Water why };
+
+    fn from(why: WaterRefusal) -> Refusal {
+        Refusal::Water(why)
+    }
+}
+
+impl From<FileRefusal> for Refusal {
+    ghost from_gives = { λ why refusal. refusal ≡ File why };
+
+    fn from(why: FileRefusal) -> Refusal {
+        Refusal::File(why)
+    }
+}
+
+impl fmt::Display for Refusal {
+    ghost output = { λ refusal. Just (refusal_text refusal) };
+
+    fn fmt<W: fmt::Write>(&self, f: &mut fmt::Formatter<W>) -> fmt::Result {
+        let number = self.number();
+        write!(f, "no {number}")
     }
 }

@@ -12,13 +12,9 @@ fn tell(rt: &HostRuntime, name: &str) -> anyhow::Result<()> {
     Ok(())
 }
 
-fn run(rt: &HostRuntime) -> anyhow::Result<()> {
-    for name in env::args(rt)?.skip(1) {
-        tell(rt, name.as_str())?;
+fn main(rt: HostRuntime) -> anyhow::Result<()> {
+    for name in env::args(&rt)?.skip(1) {
+        tell(&rt, name.as_str())?;
     }
     Ok(())
-}
-
-fn main(rt: HostRuntime) -> anyhow::Result<()> {
-    run(&rt)
 }

@@ -4,18 +4,10 @@
 use report::file_text;
 use std::fs;
 
-fn run(rt: &HostRuntime) -> anyhow::Result<()> {
-    let heap = rt.alloc();
+fn main(rt: HostRuntime) -> anyhow::Result<()> {
     // A file that cannot be read counts as empty.
-    let file = match fs::read(rt, "site.ter") {
-        Ok(bytes) => bytes,
-        Err(_) => Vec::new(heap),
-    };
-    let text = file_text(heap, file.as_slice())?;
+    let file = fs::read(&rt, "site.ter").unwrap_or_else(|_| Vec::new(rt.alloc()));
+    let text = file_text(rt.alloc(), file.as_slice())?;
     rt.print(text)?;
     Ok(())
-}
-
-fn main(rt: HostRuntime) -> anyhow::Result<()> {
-    run(&rt)
 }

@@ -6,19 +6,12 @@ use site::Site;
 use std::fs;
 use std::io::{BufRead, BufReader, BufWriter, Write};
 
-// The bytes of the site's file. A file that cannot be read counts as empty.
-fn site_file(rt: &HostRuntime) -> Vec<u8> {
-    match fs::read(rt, "site.ter") {
-        Ok(bytes) => bytes,
-        Err(_) => Vec::new(rt.alloc()),
-    }
-}
-
 // Answers every line. Answers go out when no input is at hand, so that whoever waits for one gets it.
 fn converse(rt: &HostRuntime, site: &mut Site) -> anyhow::Result<()> {
     let mut input = BufReader::new(rt.alloc(), rt.stdin())?;
     let mut output = BufWriter::new(rt.alloc(), rt.stdout())?;
     let mut line = Vec::new(rt.alloc());
+    // Not `split`, which leaves no place to flush before a read that waits; nor `loop`, which would have to end.
     for _ in 0..u64::MAX {
         if input.buffer().is_empty() {
             output.flush()?;
@@ -27,26 +20,21 @@ fn converse(rt: &HostRuntime, site: &mut Site) -> anyhow::Result<()> {
         if input.read_until(b'\n', &mut line)? == 0 {
             break;
         }
-        if line.last() == Some(&b'\n') {
-            let _ = line.pop();
-        }
-        let text = answer(rt.alloc(), site, line.as_slice())?;
+        let line = line.as_slice();
+        let text = answer(rt.alloc(), site, line.strip_suffix(b"\n").unwrap_or(line))?;
         output.write_all(text.as_bytes())?;
     }
     output.flush()?;
     Ok(())
 }
 
-fn run(rt: &HostRuntime) -> anyhow::Result<()> {
-    let mut site = Site::fresh();
-    let file = site_file(rt);
-    if let Some(text) = begin(rt.alloc(), &mut site, file.as_slice())? {
-        rt.print(text)?;
-        return Ok(());
-    }
-    converse(rt, &mut site)
-}
-
 fn main(rt: HostRuntime) -> anyhow::Result<()> {
-    run(&rt)
+    let mut site = Site::fresh();
+    // A file that cannot be read counts as empty.
+    let file = fs::read(&rt, "site.ter").unwrap_or_else(|_| Vec::new(rt.alloc()));
+    match begin(rt.alloc(), &mut site, file.as_slice())? {
+        Some(text) => rt.print(text)?,
+        None => converse(&rt, &mut site)?,
+    }
+    Ok(())
 }

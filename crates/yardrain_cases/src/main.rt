@@ -17,33 +17,23 @@ fn play(rt: &HostRuntime, site: &mut Site, name: &str) -> anyhow::Result<()> {
     Ok(())
 }
 
-// The bytes of a site's file. A file that cannot be read counts as empty.
-fn site_file(rt: &HostRuntime, name: &str) -> anyhow::Result<Vec<u8>> {
-    let path = format!(in rt.alloc(); "{name}.ter")?;
-    match fs::read(rt, path.as_str()) {
-        Ok(bytes) => Ok(bytes),
-        Err(_) => Ok(Vec::new(rt.alloc())),
-    }
-}
-
+// Plays one session on its site.
 fn tell(rt: &HostRuntime, name: &str) -> anyhow::Result<()> {
     println!(rt; "== {name}")?;
+    let path = format!(in rt.alloc(); "{name}.ter")?;
+    // A file that cannot be read counts as empty.
+    let file = fs::read(rt, path.as_str()).unwrap_or_else(|_| Vec::new(rt.alloc()));
     let mut site = Site::fresh();
-    let file = site_file(rt, name)?;
-    if let Some(text) = begin(rt.alloc(), &mut site, file.as_slice())? {
-        rt.print(text)?;
-        return Ok(());
-    }
-    play(rt, &mut site, name)
-}
-
-fn run(rt: &HostRuntime) -> anyhow::Result<()> {
-    for name in env::args(rt)?.skip(1) {
-        tell(rt, name.as_str())?;
+    match begin(rt.alloc(), &mut site, file.as_slice())? {
+        Some(text) => rt.print(text)?,
+        None => play(rt, &mut site, name)?,
     }
     Ok(())
 }
 
 fn main(rt: HostRuntime) -> anyhow::Result<()> {
-    run(&rt)
+    for name in env::args(&rt)?.skip(1) {
+        tell(&rt, name.as_str())?;
+    }
+    Ok(())
 }
