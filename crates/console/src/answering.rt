@@ -3,9 +3,7 @@ ghost use Rattle.console.specs.Answer.{after, reply_to};
 ghost use Rattle.console.specs.Grammar.{Reads};
 ghost use Rattle.console.specs.Reply.{reply_bytes};
 ghost use Rattle.console.specs.declared.command.Command.{Command as Asked};
-ghost use Rattle.site.specs.Shows.{Shows};
 ghost use Rattle.std.specs.Prelude.{◌≡◌, IfOk, Some as Just, string_bytes, Option as Maybe};
-ghost use Rattle.water.specs.State.{State};
 
 use crate::command::Command;
 use crate::reply::{Answer, Reply};
@@ -16,8 +14,8 @@ use std::alloc::{AllocError, Global};
 #[tactic(auto, using(crate::proofs::Spelling::is_read))]
 fn reply_to(site: &mut Site, line: &[u8]) -> Reply
     ensures read { (c : Maybe Asked) × Reads line.now c }
-    ensures reply { (c : Maybe Asked) (s : State) → Reads line.now c → Shows site.old s → result ≡ reply_to c s }
-    ensures state { (c : Maybe Asked) (s : State) → Reads line.now c → Shows site.old s → Shows site.new (after c s) }
+    ensures reply { (c : Maybe Asked) → Reads line.now c → result ≡ reply_to c site.old }
+    ensures state { (c : Maybe Asked) → Reads line.now c → site.new ≡ after c site.old }
 {
     match Command::try_from(line)? {
         Command::Rain { leaf, litres } => {
@@ -33,8 +31,8 @@ fn reply_to(site: &mut Site, line: &[u8]) -> Reply
 /// ends it. Where there is no memory for the reply, the line has been done all the same.
 pub fn answer(heap: Global, site: &mut Site, line: &[u8]) -> Result<String, AllocError>
     ensures read { (c : Maybe Asked) × Reads line.now c }
-    ensures text { (c : Maybe Asked) (s : State) → Reads line.now c → Shows site.old s → IfOk result (λ t. string_bytes t ≡ reply_bytes (reply_to c s)) }
-    ensures state { (c : Maybe Asked) (s : State) → Reads line.now c → Shows site.old s → Shows site.new (after c s) }
+    ensures text { (c : Maybe Asked) → Reads line.now c → IfOk result (λ t. string_bytes t ≡ reply_bytes (reply_to c site.old)) }
+    ensures state { (c : Maybe Asked) → Reads line.now c → site.new ≡ after c site.old }
 {
     match reply_to(site, line) {
         Ok(answer) => format!(in heap; "{answer}\n"),

@@ -2,7 +2,7 @@
 use water::{Leaf, Litres};
 
 /// A call on a site's water.
-#[derive(Clone, Copy)]
+#[derive(Clone, Copy, Debug, PartialEq, Eq)]
 pub enum Command {
     /// So many litres fall at a leaf.
     Rain { leaf: Leaf, litres: Litres },

@@ -4,13 +4,13 @@ ghost use Rattle.console.specs.Reply.{refusal_text};
 ghost use Rattle.console.specs.declared.refusal.Refusal.TheVariants.{Water, File};
 ghost use Rattle.std.specs.Prelude.{◌≡◌, Some as Just};
 
-use questions::Layer;
+use questions::{Layer, Refused, Told};
 use std::fmt;
 use terrain::Refusal as FileRefusal;
 use water::Refusal as WaterRefusal;
 
 /// The question that was answered no.
-#[derive(Clone, Copy)]
+#[derive(Clone, Copy, Debug, PartialEq, Eq)]
 pub enum Refusal {
     /// Well formed?
     NotWellFormed,
@@ -20,37 +20,14 @@ pub enum Refusal {
     File(FileRefusal),
 }
 
-impl Refusal {
-    /// The number of the question.
-    pub fn number(&self) -> u32
-        ensures { result ≡ (case_of self.now).number }
-    {
-        match self {
-            Refusal::NotWellFormed => 31,
-            Refusal::Water(refusal) => refusal.number(),
-            Refusal::File(refusal) => refusal.number(),
-        }
-    }
+impl Refused for Refusal {
+    ghost case = { case_of };
 
-    /// The layer that asks the question.
-    pub fn layer(&self) -> Layer
-        ensures { result ≡ (case_of self.now).layer }
-    {
+    fn told(&self) -> Told {
         match self {
-            Refusal::NotWellFormed => Layer::Line,
-            Refusal::Water(refusal) => refusal.layer(),
-            Refusal::File(refusal) => refusal.layer(),
-        }
-    }
-
-    /// What the question is about, 0 where it is about the line or the call as a whole.
-    pub fn place(&self) -> usize
-        ensures { result ≡ (case_of self.now).place }
-    {
-        match self {
-            Refusal::NotWellFormed => 0,
-            Refusal::Water(refusal) => refusal.place(),
-            Refusal::File(refusal) => refusal.place(),
+            Refusal::NotWellFormed => Told::new(31, Layer::Line, 0),
+            Refusal::Water(refusal) => refusal.told(),
+            Refusal::File(refusal) => refusal.told(),
         }
     }
 }
@@ -75,7 +52,7 @@ impl fmt::Display for Refusal {
     ghost output = { λ refusal. Just (refusal_text refusal) };
 
     fn fmt<W: fmt::Write>(&self, f: &mut fmt::Formatter<W>) -> fmt::Result {
-        let number = self.number();
+        let number = self.told().number;
         write!(f, "no {number}")
     }
 }

@@ -7,7 +7,7 @@ use std::fmt;
 use water::{Litres, Totals};
 
 /// What a line that is not refused is answered with.
-#[derive(Clone, Copy)]
+#[derive(Clone, Copy, Debug, PartialEq, Eq)]
 pub enum Answer {
     /// The rain is accepted.
     Done,
