@@ -5,6 +5,7 @@ ghost use Rattle.console.specs.declared.refusal.Refusal.TheVariants.{Water, File
 ghost use Rattle.std.specs.Prelude.{◌≡◌, Some as Just};
 
 use questions::{Layer, Refused, Told};
+use std::error::Error;
 use std::fmt;
 use terrain::Refusal as FileRefusal;
 use water::Refusal as WaterRefusal;
@@ -56,3 +57,5 @@ impl fmt::Display for Refusal {
         write!(f, "no {number}")
     }
 }
+
+impl Error for Refusal {}
