@@ -1,6 +1,6 @@
 // The layers that ask questions.
 ghost use Rattle.questions.specs.Case.{layer_name};
-ghost use Rattle.std.specs.Prelude.{Some};
+ghost use Rattle.std.specs.Prelude.{◌≡◌, Some};
 
 use std::fmt;
 
@@ -19,17 +19,25 @@ pub enum Layer {
     Line,
 }
 
-/// A layer is told in small letters.
-impl fmt::Display for Layer {
-    ghost output = { λ layer. Some (layer_name layer) };
-
-    fn fmt<W: fmt::Write>(&self, f: &mut fmt::Formatter<W>) -> fmt::Result {
-        f.write_str(match self {
+impl Layer {
+    /// The layer in small letters.
+    pub fn name(self) -> &'static str
+        ensures { result.now ≡ layer_name self }
+    {
+        match self {
             Layer::Trailer => "trailer",
             Layer::Record => "record",
             Layer::Tree => "tree",
             Layer::Water => "water",
             Layer::Line => "line",
-        })
+        }
+    }
+}
+
+impl fmt::Display for Layer {
+    ghost output = { λ layer. Some (layer_name layer) };
+
+    fn fmt<W: fmt::Write>(&self, f: &mut fmt::Formatter<W>) -> fmt::Result {
+        f.write_str(self.name())
     }
 }
