@@ -21,17 +21,12 @@ use Rattle.site.specs.declared.node.Node.{Node}
 use Rattle.site.specs.declared.node.Node.TheVariants.{Unused}
 use Rattle.site.specs.declared.node.Summary.{Summary}
 use Rattle.site.specs.declared.table.Table.{Table}
-use Rattle.site.proofs.Trees.{length_records, among, open_is, outlets_few, size_pos}
+use Rattle.site.proofs.Trees.{length_records, among, open_is, outlets_few}
 
 pub length_written : (w : List Tree) (n : ℕ) → Lined n w → length (written w) ≡ n
 length_written [] n h = sym h
 length_written (t ∷ w) n h =
     length-append (written w) (records t) ∙ omega (arith, length_written w (first t) h.2, length_records t, h.1)
-
--- No more subtrees wait than there are records.
-pub few_wait : (w : List Tree) (n : ℕ) → Lined n w → length w ≤ n
-few_wait [] n h = omega arith
-few_wait (t ∷ w) n h = omega (arith, few_wait w (first t) h.2, size_pos t, h.1)
 
 -- The table as it is while w waits.
 abbrev pub table_with : List Tree → ℕ → List Node

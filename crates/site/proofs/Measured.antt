@@ -4,13 +4,11 @@ use Rattle.std.proofs.lemmas.List.{get_or_append_left, get_or-append_right}
 use Rattle.std.proofs.lemmas.Bool.{cases_lt}
 use Rattle.std.proofs.lemmas.List.Sums.{sum_by-append, sum_by-le}
 use Rattle.std.proofs.lemmas.List.Elements.{All-from_get_or}
-use Rattle.std.specs.Option.{unwrap_or}
-use Rattle.stack.specs.Stack.{newest}
 use Rattle.water.specs.Tree.{Tree, basin, outlet, merge, size, volume, height}
 use Rattle.water.specs.Formed.{Shaped}
 use Rattle.water.specs.Water.{held, outflow}
 use Rattle.site.specs.Filling.{drained}
-use Rattle.site.specs.Measures.{own_in, own_sum, drained_sum, joined_heights, heights_after, heights, newest_height}
+use Rattle.site.specs.Measures.{own_in, own_sum, drained_sum, joined_heights, heights_after, heights}
 use Rattle.site.specs.Records.{records}
 use Rattle.site.specs.declared.node.Node.{Node}
 use Rattle.site.specs.declared.node.Node.TheVariants.{Unused, Basin, Outlet, Merge}
@@ -39,15 +37,6 @@ pub outflow_few : (t : Tree) → outflow t ≤ held t
 outflow_few (basin n o w) = omega arith
 outflow_few (outlet n w) = omega arith
 outflow_few (merge n o w c a b l r) = omega (arith, outflow_few l, outflow_few r)
-
--- One record adds at most one height.
-pub heights_grow : (x : Node) (s : List ℕ) → length (heights_after x s) ≤ length s + 1
-heights_grow Unused s = omega arith
-heights_grow (Basin o w) s = omega arith
-heights_grow (Outlet w) s = omega arith
-heights_grow (Merge o w c a b) [] = omega arith
-heights_grow (Merge o w c a b) (r ∷ []) = omega arith
-heights_grow (Merge o w c a b) (r ∷ l ∷ s) = omega arith
 
 height_few : (t : Tree) → height t < size t
 height_few (basin n o w) = omega arith
@@ -101,8 +90,3 @@ volumes_fit xs few small =
     let most = sum_by-le own_in (2 ^ 40) xs all in
     let few' = mul-le-mul_right (2 ^ 40) few in
     omega arith
-
--- What the newest of the heights is.
-pub newest_or_none : (s : List ℕ) → unwrap_or (newest s) 0 ≡ newest_height s
-newest_or_none [] = refl
-newest_or_none (h ∷ s) = refl

@@ -1,5 +1,5 @@
 -- One record taken from the file.
-use Rattle.std.proofs.Common.{◌≡◌, ℕ, suc, ◌+◌, ◌-◌, ◌*◌, ◌^◌, ◌<◌, ◌≤◌, true, List, [], ◌∷◌, ◌++◌, length, Some, None, Ok, Err, Result, sym, refl, ap, ◌∙◌, subst, mul-le-mul_right, suc-mul, add-one, arith}
+use Rattle.std.proofs.Common.{◌≡◌, ℕ, suc, ◌+◌, ◌-◌, ◌*◌, ◌^◌, ◌<◌, ◌≤◌, true, List, [], ◌∷◌, ◌++◌, length, Some, None, Ok, Err, Option, Result, sym, refl, ap, ◌∙◌, subst, mul-le-mul_right, suc-mul, add-one, arith}
 use Rattle.std.proofs.lemmas.Bool.{cond-true, eqb-true, le-leb, ltb-true}
 use Rattle.questions.specs.Ask.{AllYes, Question, first_no}
 use Rattle.terrain.specs.Format.{Format, part}
@@ -109,33 +109,34 @@ seen_asked e i at file said t s b few pe se =
 -- From record i on a reader's step gives what the file says there.
 module _ (e : Format) (reader : Reader) (loading : Loading) (more : MoreLeft e loading.table.count reader.file.now) (so_far : Reached e reader loading) where
   -- The record that was read is the file's record i.
-  read_is : (step : Result Record Refusal) → Some step ≡ next_record e reader.file.now reader.place.at →
+  read_is : (read : Option (Result Record Refusal)) (step : Result Record Refusal) → read ≡ next_record e reader.file.now reader.place.at → read ≡ Some step →
       step ≡ record_at e reader.file.now (start_of e reader.file.now loading.table.count)
-  read_is step s =
+  read_is read step answer is =
       let t = next_there e loading.table.count reader.place.at reader.file.now more so_far.place in
-      let z : Some step ≡ Some (record_at e reader.file.now (start_of e reader.file.now loading.table.count)) = s ∙ t in
+      let z : Some step ≡ Some (record_at e reader.file.now (start_of e reader.file.now loading.table.count)) = sym is ∙ answer ∙ t in
       cc
 
   -- A record that is refused gives the first no, however many records follow.
-  pub refused_record : (x : Refusal) → Some (Err x) ≡ next_record e reader.file.now reader.place.at →
+  pub refused_record : (read : Option (Result Record Refusal)) (x : Refusal) → read ≡ next_record e reader.file.now reader.place.at → read ≡ Some (Err x) →
       (n : ℕ) → loading.table.count + 1 ≤ n → first_no (questions_from e reader.file.now n 0) ≡ Some x
-  refused_record x read n h =
+  refused_record read x answer is n h =
       let i : ℕ = loading.table.count in
       so_far.asked n (omega arith)
-      ∙ stopped_at_record e n i reader.file.now x (omega arith) (verdict_err (first_no (record_asked e reader.file.now i)) x (record_in e reader.file.now i) (read_is (Err x) read))
+      ∙ stopped_at_record e n i reader.file.now x (omega arith)
+      (verdict_err (first_no (record_asked e reader.file.now i)) x (record_in e reader.file.now i) (read_is read (Err x) answer is))
 
   -- A record that was read and grown: the loader is one record further, or the answer is the first question answered no.
-  pub taken : (said : Record) (at : ℕ) (next : Reader) (after : Loading) (r : Result (Unit {0}) Refusal) →
-      Some (Ok said) ≡ next_record e reader.file.now reader.place.at → at ≡ reader.place.at → Grew loading after said at r →
+  pub taken : (read : Option (Result Record Refusal)) (said : Record) (at : ℕ) (next : Reader) (after : Loading) (r : Result (Unit {0}) Refusal) →
+      read ≡ next_record e reader.file.now reader.place.at → read ≡ Some (Ok said) → at ≡ reader.place.at → Grew loading after said at r →
       next.file ≡ reader.file → next.place.at ≡ place_after reader.file.now reader.place.at e.record_len →
       Filled e (loading.table.count + 1) reader.file.now next after r
-  taken said at next after (Ok u) read ae grew fe pe =
+  taken read said at next after (Ok u) answer is ae grew fe pe =
       let file : List ℕ = reader.file.now in
       let t : Table = loading.table in
       let s : List Summary = loading.waiting.items in
       let i : ℕ = t.count in
       let w : List Tree = waiting e file i in
-      let passed = verdict_ok (first_no (record_asked e file i)) said (record_in e file i) (read_is (Ok said) read) in
+      let passed = verdict_ok (first_no (record_asked e file i)) said (record_in e file i) (read_is read (Ok said) answer is) in
       let q = seen_asked e i at file said t s so_far.built (omega (arith, more.few)) (ae ∙ so_far.place) passed.1 in
       let none : first_no (questions_seen t s said at) ≡ None = (verdict_ok (first_no (questions_seen t s said at)) u tt grew.answer).0 in
       let yes : first_no (tree_questions said at w) ≡ None =
@@ -160,11 +161,11 @@ module _ (e : Format) (reader : Reader) (loading : Loading) (more : MoreLeft e l
             so_far.asked n (omega arith) ∙ passed_record e n i file (omega arith) passed.0 (ap first_no (sym q) ∙ none)),
         count,
       )
-  taken said at next after (Err x) read ae grew fe pe = λ n h.
+  taken read said at next after (Err x) answer is ae grew fe pe = λ n h.
       let file : List ℕ = reader.file.now in
       let t : Table = loading.table in
       let s : List Summary = loading.waiting.items in
-      let passed = verdict_ok (first_no (record_asked e file t.count)) said (record_in e file t.count) (read_is (Ok said) read) in
+      let passed = verdict_ok (first_no (record_asked e file t.count)) said (record_in e file t.count) (read_is read (Ok said) answer is) in
       let q = seen_asked e t.count at file said t s so_far.built (omega (arith, more.few)) (ae ∙ so_far.place) passed.1 in
       let some = verdict_err (first_no (questions_seen t s said at)) x tt grew.answer in
       so_far.asked n (omega arith) ∙ stopped_at_tree e n t.count file x (omega arith) passed.0 (ap first_no (sym q) ∙ some)
