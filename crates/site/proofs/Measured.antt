@@ -1,5 +1,5 @@
 -- Sums and heights of the records of a tree.
-use Rattle.std.proofs.Common.{◌≡◌, ℕ, zero, suc, ◌+◌, ◌-◌, ◌^◌, ◌<◌, ◌≤◌, min, max, List, [], ◌∷◌, ◌++◌, length, get_or, sum_by, sym, refl, ap, ◌∙◌, subst, ⊎_elim, mul-le-mul_right, arith}
+use Rattle.std.proofs.Common.{◌≡◌, ℕ, zero, suc, ◌+◌, ◌-◌, ◌^◌, ◌<◌, ◌≤◌, min, max, List, [], ◌∷◌, ◌++◌, length, get_or, sum_by, sym, refl, subst, ⊎_elim, mul-le-mul_right, arith}
 use Rattle.std.proofs.lemmas.List.{get_or_append_left, get_or-append_right}
 use Rattle.std.proofs.lemmas.Bool.{cases_lt}
 use Rattle.std.proofs.lemmas.List.Sums.{sum_by-append, sum_by-le}
@@ -8,7 +8,7 @@ use Rattle.water.specs.Tree.{Tree, basin, outlet, merge, size, volume, height}
 use Rattle.water.specs.Formed.{Shaped}
 use Rattle.water.specs.Water.{held, outflow}
 use Rattle.site.specs.Filling.{drained}
-use Rattle.site.specs.Measures.{own_in, own_sum, drained_sum, joined_heights, heights_after, heights}
+use Rattle.site.specs.Measures.{own_in, own_sum, drained_sum, heights_after, heights}
 use Rattle.site.specs.Records.{records}
 use Rattle.site.specs.declared.node.Node.{Node}
 use Rattle.site.specs.declared.node.Node.TheVariants.{Unused, Basin, Outlet, Merge}
@@ -54,10 +54,9 @@ heights_of (outlet n w) s few = refl
 heights_of (merge n o w c a b l r) s few =
     let p : heights (records l) s ≡ height l ∷ s = heights_of l s (omega arith) in
     let q : heights (records r) (height l ∷ s) ≡ height r ∷ height l ∷ s = heights_of r (height l ∷ s) (omega arith) in
-    let u : heights (records l ++ records r) s ≡ height r ∷ height l ∷ s =
-    heights_append (records l) (records r) s ∙ ap (heights (records r)) p ∙ q in
+    let u : heights (records l ++ records r) s ≡ height r ∷ height l ∷ s = cc (heights_append (records l) (records r) s) in
     let m : min (max (height l) (height r) + 1) 65535 ≡ max (height l) (height r) + 1 = omega (arith, height_few l, height_few r) in
-    heights_append (records l ++ records r) (Merge o w c a b ∷ []) s ∙ ap joined_heights u ∙ ap (λ (k : ℕ). k ∷ s) m
+    cc (heights_append (records l ++ records r) (Merge o w c a b ∷ []) s)
 
 -- Every own volume among these is below 2^40.
 abbrev pub AllSmall : List Node → Type 0

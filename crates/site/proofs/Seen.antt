@@ -18,19 +18,19 @@ pub seen_at : (nodes : List Node) (root leaf : ℕ) (x : Node) (seen : Survey) �
 seen_at nodes root leaf x seen is f before t after s = f t (sym (at_top_lem nodes root before t after s) ∙ is)
 
 pub unused_seen : (leaf : ℕ) (seen : Survey) (t : Tree) → top_node t ≡ Unused → seen ≡ survey_of leaf t
-unused_seen leaf seen (basin n p q) e = let z : ◌≡◌ {A = ℕ} 0 1 = cc in absurd (omega arith)
-unused_seen leaf seen (outlet n q) e = let z : ◌≡◌ {A = ℕ} 0 1 = cc in absurd (omega arith)
-unused_seen leaf seen (merge n p q i j k l r) e = let z : ◌≡◌ {A = ℕ} 0 1 = cc in absurd (omega arith)
+unused_seen leaf seen (basin n p q) e = cc
+unused_seen leaf seen (outlet n q) e = cc
+unused_seen leaf seen (merge n p q i j k l r) e = cc
 
 pub basin_seen : (o w leaf : ℕ) (t : Tree) → top_node t ≡ Basin o w → record { full = eqb w o; held = w; level = w } ≡ survey_of leaf t
 basin_seen o w leaf (basin n p q) e = cc
-basin_seen o w leaf (outlet n q) e = let z : ◌≡◌ {A = ℕ} 0 1 = cc in absurd (omega arith)
-basin_seen o w leaf (merge n p q i j k l r) e = let z : ◌≡◌ {A = ℕ} 0 1 = cc in absurd (omega arith)
+basin_seen o w leaf (outlet n q) e = cc
+basin_seen o w leaf (merge n p q i j k l r) e = cc
 
 pub outlet_seen : (w leaf : ℕ) (t : Tree) → top_node t ≡ Outlet w → record { full = false; held = w; level = 0 } ≡ survey_of leaf t
-outlet_seen w leaf (basin n p q) e = let z : ◌≡◌ {A = ℕ} 0 1 = cc in absurd (omega arith)
+outlet_seen w leaf (basin n p q) e = cc
 outlet_seen w leaf (outlet n q) e = cc
-outlet_seen w leaf (merge n p q i j k l r) e = let z : ◌≡◌ {A = ℕ} 0 1 = cc in absurd (omega arith)
+outlet_seen w leaf (merge n p q i j k l r) e = cc
 
 -- The table has a merge at `root`.
 module _ (nodes : List Node) (root : ℕ) {o w c x y : ℕ} (is : get_or nodes root Unused ≡ Merge o w c x y) where
