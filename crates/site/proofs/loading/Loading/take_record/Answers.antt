@@ -1,4 +1,4 @@
-use Rattle.std.proofs.Common.{ap, Err, ◌∙◌}
+use Rattle.std.proofs.Common.{rules, ap, Err, ◌∙◌}
 use Rattle.std.proofs.lemmas.Result.{err_from_is_err_and}
 use Rattle.terrain.specs.Format.{Format, format}
 use Rattle.site.proofs.Taken.{filled_err, refused_record, taken}
@@ -13,7 +13,4 @@ returns-in_err-said-clause-done g c =
     c.record.ensures.answer c.in_err-said.ensures)
 
 pub returns-clause-done : goal.returns-clause-done
-returns-clause-done g c =
-    let e : Format = format g.E.Edition.digit g.E.Edition.record_len g.E.ByteOrder.number in
-    taken e c.args.reader.now c.args.self.now c.requires.more c.requires.reached c.record.result c.in_ok-said.said c.place-at.result c.record.new.self c.grow.new.self c.grow.result
-    c.record.ensures.answer c.in_ok-said.ensures c.place-at.ensures c.grow.ensures c.record.ensures.file c.record.ensures.place
+returns-clause-done g c = search (rules, taken)

@@ -1,4 +1,4 @@
-use Rattle.std.proofs.Common.{◌++◌, sym, ap, ◌∙◌, arith}
+use Rattle.std.proofs.Common.{rules, ◌++◌, sym, ap, ◌∙◌, arith}
 use mathlib.Core.Logic.{∥∥₁_elim}
 use native.Mathlib.Bridge.{le_prop}
 use Rattle.water.specs.Tree.{Tree}
@@ -55,6 +55,4 @@ fill_record-requires-2-clause-litres_fit t c =
     omega (arith, dry, c.pour-rest.type_inv)
 
 pub returns-clause-water : goal.returns-clause-water
-returns-clause-water t c =
-    pours_merge c.args.self.now.nodes c.args.root c.in-Merge.is c.args.litres c.sides_from-sides.ensures c.pour-spilled.ensures.water c.pour-rest.ensures.water
-    c.fill_record-2.ensures.water c.fill_record-2.ensures.rest
+returns-clause-water t c = search (rules, pours_merge)

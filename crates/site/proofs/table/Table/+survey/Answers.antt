@@ -1,21 +1,16 @@
-use Rattle.std.proofs.Common.{◌∙◌, arith}
-use Rattle.site.specs.declared.node.Node.TheVariants.{Unused, Basin, Outlet}
+use Rattle.std.proofs.Common.{rules, ◌∙◌, arith}
 use Rattle.site.proofs.Seen.{basin_seen, joined_fits, left_rooted, merge_seen, outlet_seen, right_rooted, seen_at, unused_seen}
 use Rattle.site.proofs.Sides.{cut_as, merge_past}
 use Rattle.site.proofs.table.Table.+survey.Goals as goal
 
 pub returns-in-Unused : goal.returns-in-Unused
-returns-in-Unused t c = seen_at c.args.self.now.nodes c.args.root c.args.leaf Unused _ c.in-Unused.is (unused_seen c.args.leaf _)
+returns-in-Unused t c = search (rules, seen_at, unused_seen)
 
 pub returns-in-Basin : goal.returns-in-Basin
-returns-in-Basin t c =
-    let b = c.in-Basin in
-    seen_at c.args.self.now.nodes c.args.root c.args.leaf (Basin b.own b.water) _ b.is (basin_seen b.own b.water c.args.leaf)
+returns-in-Basin t c = search (rules, seen_at, basin_seen)
 
 pub returns-in-Outlet : goal.returns-in-Outlet
-returns-in-Outlet t c =
-    let b = c.in-Outlet in
-    seen_at c.args.self.now.nodes c.args.root c.args.leaf (Outlet b.water) _ b.is (outlet_seen b.water c.args.leaf)
+returns-in-Outlet t c = search (rules, seen_at, outlet_seen)
 
 pub overflow_sub-cut : goal.overflow_sub-cut
 overflow_sub-cut t c =
