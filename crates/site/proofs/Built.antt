@@ -1,15 +1,13 @@
 -- What the loader has built stays as it should be from record to record.
-use Rattle.std.proofs.Common.{◌≡◌, ℕ, suc, ◌+◌, ◌-◌, ◌^◌, ◌<◌, ◌≤◌, min, Bool, true, not, ◌&&◌, ◌||◌, eqb, ltb, leb, List, [], ◌∷◌, ◌++◌, map, length, set, replicate, None, sym, refl, ap, ◌∙◌, subst, arith}
+use Rattle.std.proofs.Common.{◌≡◌, ℕ, suc, ◌+◌, ◌-◌, ◌^◌, ◌<◌, ◌≤◌, min, true, not, ◌||◌, eqb, ltb, leb, List, [], ◌∷◌, ◌++◌, map, length, set, replicate, None, sym, refl, ap, ◌∙◌, subst, arith}
 use Rattle.std.proofs.lemmas.List.{append_assoc, length-append, length-map, set_at}
 use Rattle.std.proofs.lemmas.Bool.{and_parts, eqb-true}
 use Rattle.std.proofs.lemmas.Bool.Decides.{nat_tests}
 use Rattle.questions.proofs.Asked.{all_yes}
-use Rattle.questions.specs.Ask.{Question, ask, first_no}
+use Rattle.questions.specs.Ask.{first_no}
 use Rattle.terrain.specs.declared.record.Kind.{Kind}
 use Rattle.terrain.specs.declared.record.Kind.TheVariants.{Basin, Merge, Outlet}
 use Rattle.terrain.specs.declared.record.Record.{Record}
-use Rattle.terrain.specs.declared.refusal.Refusal.{Refusal}
-use Rattle.terrain.specs.declared.refusal.Refusal.TheVariants.{Waiting, Landings, OpenVolume}
 use Rattle.water.specs.Tree.{Tree, basin, outlet, merge, size, first, outlets, has_leaf, dried}
 use Rattle.water.specs.Formed.{Numbered, Shaped}
 use Rattle.site.specs.Building.{written, Lined, Ready, summary_of, Building}
@@ -21,17 +19,12 @@ use Rattle.site.specs.declared.node.Node.{Node}
 use Rattle.site.specs.declared.node.Node.TheVariants.{Unused}
 use Rattle.site.specs.declared.node.Summary.{Summary}
 use Rattle.site.specs.declared.table.Table.{Table}
-use Rattle.site.proofs.Trees.{length_records, among, open_is, outlets_few, size_pos}
+use Rattle.site.proofs.Trees.{length_records, among, open_is, outlets_few}
 
 pub length_written : (w : List Tree) (n : ℕ) → Lined n w → length (written w) ≡ n
 length_written [] n h = sym h
 length_written (t ∷ w) n h =
     length-append (written w) (records t) ∙ omega (arith, length_written w (first t) h.2, length_records t, h.1)
-
--- No more subtrees wait than there are records.
-pub few_wait : (w : List Tree) (n : ℕ) → Lined n w → length w ≤ n
-few_wait [] n h = omega arith
-few_wait (t ∷ w) n h = omega (arith, few_wait w (first t) h.2, size_pos t, h.1)
 
 -- The table as it is while w waits.
 abbrev pub table_with : List Tree → ℕ → List Node
@@ -63,7 +56,7 @@ sides_seen_lem t rec (r ∷ l ∷ w) e h few =
     (e ∙ append_assoc (written w ++ records l) (records r) U) pre h.2.0 cut (omega (arith, h.1)) in
     let q : leaf_among t.nodes rec.right (first r) n ≡ has_leaf rec.right r =
     among t.nodes (written w ++ records l) U r rec.right (first r) n e both h.0 h.1 few in
-    ap (λ (x : Bool). x && leaf_among t.nodes rec.right (first r) n) p ∙ ap (λ (x : Bool). has_leaf rec.left l && x) q
+    cc
 
 landed_seen_lem : (k : Kind) (t : Table) (rec : Record) (w : List Tree) → t.nodes ≡ table_with w t.count → Lined t.count w → t.count ≤ 1023 →
     landed_seen k t rec (map summary_of w) ≡ landed k rec w
@@ -84,30 +77,21 @@ sides_open (r ∷ l ∷ w) n h few =
 open_seen_lem : (k : Kind) (rec : Record) (w : List Tree) (n : ℕ) → Lined n w → n ≤ 1023 → open_seen k rec (map summary_of w) ≡ open_is_empty k rec w
 open_seen_lem Basin rec w n h few = refl
 open_seen_lem Outlet rec w n h few = refl
-open_seen_lem Merge rec w n h few = ap (λ (x : Bool). not x || eqb rec.own 0) (sides_open w n h few)
+open_seen_lem Merge rec w n h few = cc (sides_open w n h few)
 
 enough_seen_lem : (k : Kind) (w : List Tree) → enough_seen k (map summary_of w) ≡ enough_wait k w
 enough_seen_lem Basin w = refl
 enough_seen_lem Outlet w = refl
 enough_seen_lem Merge w = ap (leb 2) (length-map w summary_of)
 
-abbrev asks : Record → ℕ → ℕ → Bool → Bool → Bool → List (Question Refusal)
-asks rec at n a b c =
-    ask a (Waiting n at) ∷ ask b (Landings rec.left rec.right (at + 2)) ∷ ask c (OpenVolume rec.own (at + 8)) ∷ []
-
 -- The table and the summaries answer the tree's questions.
 pub same_questions : (t : Table) (s : List Summary) (w : List Tree) (rec : Record) (at : ℕ) → Building t s w → t.count ≤ 1023 →
     questions_seen t s rec at ≡ tree_questions rec at w
 same_questions t s w rec at b few =
-    let k : Kind = rec.kind in
-    ap (λ (x : List Summary). questions_seen t x rec at) b.kept
-    ∙ ap (λ (x : ℕ). asks rec at x (enough_seen k (map summary_of w)) (landed_seen k t rec (map summary_of w)) (open_seen k rec (map summary_of w))) (length-map w summary_of)
-    ∙ ap (λ (x : Bool). asks rec at (length w) x (landed_seen k t rec (map summary_of w)) (open_seen k rec (map summary_of w))) (enough_seen_lem k w)
-    ∙ ap (λ (x : Bool). asks rec at (length w) (enough_wait k w) x (open_seen k rec (map summary_of w))) (landed_seen_lem k t rec w b.holds b.lined few)
-    ∙ ap (λ (x : Bool). asks rec at (length w) (enough_wait k w) (landed k rec w) x) (open_seen_lem k rec w t.count b.lined few)
+    cc (b.kept, length-map w summary_of, enough_seen_lem rec.kind w, landed_seen_lem rec.kind t rec w b.holds b.lined few, open_seen_lem rec.kind rec w t.count b.lined few)
 
 dry_merge : (i o c x y : ℕ) (l r : Tree) → dried l ≡ l → dried r ≡ r → dried (merge i o 0 c x y l r) ≡ merge i o 0 c x y l r
-dry_merge i o c x y l r p q = ap (λ (t : Tree). merge i o 0 c x y t (dried r)) p ∙ ap (λ (t : Tree). merge i o 0 c x y l t) q
+dry_merge i o c x y l r p q = cc
 
 -- A leaf is built.
 built_leaf : (t : Table) (w : List Tree) (leaf : Tree) (x : Node) → t.nodes ≡ table_with w t.count → Lined t.count w → Ready w → t.count < 1023 →
@@ -116,8 +100,7 @@ built_leaf : (t : Table) (w : List Tree) (leaf : Tree) (x : Node) → t.nodes �
 built_leaf t w leaf x e h ready few rs f one num shaped dry =
     record {
       holds =
-          ap (λ (ns : List Node). set ns t.count x) e ∙ put_next (written w) t.count x (length_written w t.count h) few
-          ∙ ap (λ (ns : List Node). (written w ++ ns) ++ replicate (1023 - (t.count + 1)) Unused) (sym rs);
+          cc (put_next (written w) t.count x (length_written w t.count h) few);
       lined = (subst (λ (b : ℕ). Numbered b leaf) (sym f) num, omega (arith, f, one), subst (λ (b : ℕ). Lined b w) (sym f) h);
       ready = (shaped, dry, ready);
       kept = refl;
@@ -127,8 +110,8 @@ built_leaf t w leaf x e h ready few rs f one num shaped dry =
 built_merge : (t : Table) (rec : Record) (w : List Tree) → t.nodes ≡ table_with w t.count → Lined t.count w → Ready w → t.count < 1023 →
     leb 2 (length w) ≡ true → lands_in_sides rec w ≡ true → (not (open_sides w) || eqb rec.own 0) ≡ true → rec.own < 2 ^ 40 →
     Building (record { nodes = set t.nodes t.count (node_for Merge rec (map summary_of w)); count = t.count + 1 }) (merged_summaries (map summary_of w)) (joined t.count rec w)
-built_merge t rec [] e h ready few two lands empty own = let z : ◌≡◌ {A = ℕ} 0 1 = cc in absurd (omega arith)
-built_merge t rec (r ∷ []) e h ready few two lands empty own = let z : ◌≡◌ {A = ℕ} 0 1 = cc in absurd (omega arith)
+built_merge t rec [] e h ready few two lands empty own = cc
+built_merge t rec (r ∷ []) e h ready few two lands empty own = cc
 built_merge t rec (r ∷ l ∷ w) e h ready few two lands empty own =
     let n : ℕ = t.count in
     let x : Node = node_for Merge rec (map summary_of (r ∷ l ∷ w)) in
@@ -146,7 +129,7 @@ built_merge t rec (r ∷ l ∷ w) e h ready few two lands empty own =
         dry_merge n rec.own (first r) rec.left rec.right l r ready.2.1 ready.1,
         ready.2.2,
       );
-      kept = ap (λ (k : ℕ). record { first = first l; outlets = k } ∷ map summary_of w) (outlets_sum r l w n h (omega arith));
+      kept = cc (outlets_sum r l w n h (omega arith));
     }
 
 -- One record more of kind k is built.

@@ -19,8 +19,8 @@ same_record : (k : Kind) (x y o : ℕ) (rec : Record) → rec.kind ≡ k → rec
 same_record k x y o rec ke xe ye oe = λ i. record { kind = sym ke i; left = sym xe i; right = sym ye i; own = sym oe i }
 
 listed_merge : (i : ℕ) (rec : Record) (w : List Tree) → rec.kind ≡ Merge → enough_wait Merge w ≡ true → listed (joined i rec w) ≡ listed w ++ (rec ∷ [])
-listed_merge i rec [] ke h = let z : ◌≡◌ {A = ℕ} 0 1 = cc in absurd (omega arith)
-listed_merge i rec (r ∷ []) ke h = let z : ◌≡◌ {A = ℕ} 0 1 = cc in absurd (omega arith)
+listed_merge i rec [] ke h = cc
+listed_merge i rec (r ∷ []) ke h = cc
 listed_merge i rec (r ∷ l ∷ w) ke h =
     let m : record { kind = Merge; left = rec.left; right = rec.right; own = rec.own } ≡ rec = same_record Merge rec.left rec.right rec.own rec ke refl refl refl in
     ap (λ (x : Record). listed w ++ ((postorder l ++ postorder r) ++ (x ∷ []))) m

@@ -1,16 +1,14 @@
 -- Sums and heights of the records of a tree.
-use Rattle.std.proofs.Common.{◌≡◌, ℕ, zero, suc, ◌+◌, ◌-◌, ◌^◌, ◌<◌, ◌≤◌, min, max, List, [], ◌∷◌, ◌++◌, length, get_or, sum_by, sym, refl, ap, ◌∙◌, subst, ⊎_elim, mul-le-mul_right, arith}
+use Rattle.std.proofs.Common.{◌≡◌, ℕ, zero, suc, ◌+◌, ◌-◌, ◌^◌, ◌<◌, ◌≤◌, min, max, List, [], ◌∷◌, ◌++◌, length, get_or, sum_by, sym, refl, subst, ⊎_elim, mul-le-mul_right, arith}
 use Rattle.std.proofs.lemmas.List.{get_or_append_left, get_or-append_right}
 use Rattle.std.proofs.lemmas.Bool.{cases_lt}
 use Rattle.std.proofs.lemmas.List.Sums.{sum_by-append, sum_by-le}
 use Rattle.std.proofs.lemmas.List.Elements.{All-from_get_or}
-use Rattle.std.specs.Option.{unwrap_or}
-use Rattle.stack.specs.Stack.{newest}
 use Rattle.water.specs.Tree.{Tree, basin, outlet, merge, size, volume, height}
 use Rattle.water.specs.Formed.{Shaped}
 use Rattle.water.specs.Water.{held, outflow}
 use Rattle.site.specs.Filling.{drained}
-use Rattle.site.specs.Measures.{own_in, own_sum, drained_sum, joined_heights, heights_after, heights, newest_height}
+use Rattle.site.specs.Measures.{own_in, own_sum, drained_sum, heights_after, heights}
 use Rattle.site.specs.Records.{records}
 use Rattle.site.specs.declared.node.Node.{Node}
 use Rattle.site.specs.declared.node.Node.TheVariants.{Unused, Basin, Outlet, Merge}
@@ -40,15 +38,6 @@ outflow_few (basin n o w) = omega arith
 outflow_few (outlet n w) = omega arith
 outflow_few (merge n o w c a b l r) = omega (arith, outflow_few l, outflow_few r)
 
--- One record adds at most one height.
-pub heights_grow : (x : Node) (s : List ℕ) → length (heights_after x s) ≤ length s + 1
-heights_grow Unused s = omega arith
-heights_grow (Basin o w) s = omega arith
-heights_grow (Outlet w) s = omega arith
-heights_grow (Merge o w c a b) [] = omega arith
-heights_grow (Merge o w c a b) (r ∷ []) = omega arith
-heights_grow (Merge o w c a b) (r ∷ l ∷ s) = omega arith
-
 height_few : (t : Tree) → height t < size t
 height_few (basin n o w) = omega arith
 height_few (outlet n w) = omega arith
@@ -65,10 +54,9 @@ heights_of (outlet n w) s few = refl
 heights_of (merge n o w c a b l r) s few =
     let p : heights (records l) s ≡ height l ∷ s = heights_of l s (omega arith) in
     let q : heights (records r) (height l ∷ s) ≡ height r ∷ height l ∷ s = heights_of r (height l ∷ s) (omega arith) in
-    let u : heights (records l ++ records r) s ≡ height r ∷ height l ∷ s =
-    heights_append (records l) (records r) s ∙ ap (heights (records r)) p ∙ q in
+    let u : heights (records l ++ records r) s ≡ height r ∷ height l ∷ s = cc (heights_append (records l) (records r) s) in
     let m : min (max (height l) (height r) + 1) 65535 ≡ max (height l) (height r) + 1 = omega (arith, height_few l, height_few r) in
-    heights_append (records l ++ records r) (Merge o w c a b ∷ []) s ∙ ap joined_heights u ∙ ap (λ (k : ℕ). k ∷ s) m
+    cc (heights_append (records l ++ records r) (Merge o w c a b ∷ []) s)
 
 -- Every own volume among these is below 2^40.
 abbrev pub AllSmall : List Node → Type 0
@@ -101,8 +89,3 @@ volumes_fit xs few small =
     let most = sum_by-le own_in (2 ^ 40) xs all in
     let few' = mul-le-mul_right (2 ^ 40) few in
     omega arith
-
--- What the newest of the heights is.
-pub newest_or_none : (s : List ℕ) → unwrap_or (newest s) 0 ≡ newest_height s
-newest_or_none [] = refl
-newest_or_none (h ∷ s) = refl

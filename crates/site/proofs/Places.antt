@@ -53,8 +53,8 @@ module _ (nodes : List Node) (root : ℕ) (before : List Node) (t : Tree) (after
 
 -- A merge in the table is a merge of the tree.
 pub as_merge : (t : Tree) (o w c x y : ℕ) → top_node t ≡ Merge o w c x y → (n : ℕ) × (l : Tree) × (r : Tree) × (t ≡ merge n o w c x y l r)
-as_merge (basin n p q) o w c x y e = let z : ◌≡◌ {A = ℕ} 0 1 = cc in absurd (omega arith)
-as_merge (outlet n q) o w c x y e = let z : ◌≡◌ {A = ℕ} 0 1 = cc in absurd (omega arith)
+as_merge (basin n p q) o w c x y e = cc
+as_merge (outlet n q) o w c x y e = cc
 as_merge (merge n p q i j k l r) o w c x y e = (n, l, r, cc)
 
 -- The two sides of a merge stand before it, one behind the other.

@@ -139,11 +139,11 @@ runs_merge nodes root before n o w c x y l r after leaf v first second landing s
     (cases_lt leaf c)
 
 -- The table has a merge at `root`.
-module _ (nodes : List Node) (root o w c x y : ℕ) (is : get_or nodes root Unused ≡ Merge o w c x y) where
+module _ (nodes : List Node) (root : ℕ) {o w c x y : ℕ} (is : get_or nodes root Unused ≡ Merge o w c x y) where
   is_top : (before : List Node) (t : Tree) (after : List Node) → Subtree nodes root before t after → top_node t ≡ Merge o w c x y
   is_top before t after s = sym (at_top_lem nodes root before t after s) ∙ is
 
-  module _ (leaf v first second landing : ℕ) (d : SidesFrom leaf root c x y first second landing) where
+  module _ (v : ℕ) {leaf first second landing : ℕ} (d : SidesFrom leaf root c x y first second landing) where
     runs : (before : List Node) (t : Tree) (after : List Node) → Subtree nodes root before t after →
         Runs nodes root before t after leaf v first second landing
     runs before t after s =
@@ -159,7 +159,7 @@ module _ (nodes : List Node) (root o w c x y : ℕ) (is : get_or nodes root Unus
           (u.before_first, u.one, u.after_first, u.in_first, omega (arith, k.4, u.held_first))),
     )
 
-    module _ (ns : List Node) (spilled : ℕ) (p : PouredAt nodes first leaf v ns spilled) where
+    module _ {ns : List Node} {spilled : ℕ} (p : PouredAt nodes first leaf v ns spilled) where
       -- The second side can take what the first lets out.
       pub second_rooted : ∥ Rooted nodes root v ∥₁ → (second < root) × ∥ Rooted ns second spilled ∥₁
       second_rooted h = (
@@ -174,7 +174,7 @@ module _ (nodes : List Node) (root o w c x y : ℕ) (is : get_or nodes root Unus
             )),
       )
 
-      module _ (ms : List Node) (over : ℕ) (q : PouredAt ns second landing spilled ms over) where
+      module _ {ms : List Node} {over : ℕ} (q : PouredAt ns second landing spilled ms over) where
         -- What the two sides leave at the top, and what filling the top then gives.
         finish : (before : List Node) (t : Tree) (after : List Node) → Subtree nodes root before t after →
             (drained (get_or ms root Unused) ≡ 0)
@@ -198,9 +198,9 @@ module _ (nodes : List Node) (root o w c x y : ℕ) (is : get_or nodes root Unus
         pub top_dry : ∥ Rooted nodes root v ∥₁ → drained (get_or ms root Unused) ≤ 0
         top_dry h = ∥∥₁_elim h le_prop (λ k. omega (arith, (finish k.0 k.1 k.2 k.3).0))
 
-        pub pours_merge : (ks : List Node) (out : ℕ) → ks ≡ set ms root (filled_node over (get_or ms root Unused)) →
+        pub pours_merge : {ks : List Node} {out : ℕ} → ks ≡ set ms root (filled_node over (get_or ms root Unused)) →
             out ≡ over_node over (get_or ms root Unused) → PouredAt nodes root leaf v ks out
-        pours_merge ks out e f =
+        pours_merge e f =
             record {
               water = λ before t after s. e ∙ (finish before t after s).1;
               rest = λ before t after s. f ∙ (finish before t after s).2;

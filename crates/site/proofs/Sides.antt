@@ -1,5 +1,5 @@
 -- The two sides of a merge, in their places before it.
-use Rattle.std.proofs.Common.{◌≡◌, ℕ, ◌-◌, ◌<◌, ◌≤◌, List, ◌∷◌, ◌++◌, get_or, sym, ◌∙◌, subst, arith}
+use Rattle.std.proofs.Common.{◌≡◌, ℕ, ◌-◌, ◌<◌, ◌≤◌, List, ◌∷◌, ◌++◌, get_or, sym, ap, ◌∙◌, subst, arith}
 use mathlib.Core.Logic.{∥∥₁_elim}
 use native.Mathlib.Bridge.{le_prop}
 use Rattle.water.specs.Tree.{Tree, merge}
@@ -22,7 +22,7 @@ pub record Sides (nodes : List Node) (root o w c x y : ℕ) (before : List Node)
   pub past : c ≤ root
 
 -- The table has a merge at `root`.
-module _ (nodes : List Node) (root o w c x y : ℕ) (is : get_or nodes root Unused ≡ Merge o w c x y) where
+module _ (nodes : List Node) (root : ℕ) {o w c x y : ℕ} (is : get_or nodes root Unused ≡ Merge o w c x y) where
   pub sides : (before : List Node) (t : Tree) (after : List Node) → Subtree nodes root before t after → Sides nodes root o w c x y before t after
   sides before t after s =
       let m = as_merge t o w c x y (sym (at_top_lem nodes root before t after s) ∙ is) in
@@ -44,3 +44,7 @@ module _ (nodes : List Node) (root o w c x y : ℕ) (is : get_or nodes root Unus
     ∥∥₁_elim h le_prop (λ k. (sides k.0 k.1 k.2 k.3).some),
     ∥∥₁_elim h le_prop (λ k. (sides k.0 k.1 k.2 k.3).past),
   )
+
+-- The same merge, its cut under another name.
+pub cut_as : (nodes : List Node) (root : ℕ) {o w c x y k : ℕ} → get_or nodes root Unused ≡ Merge o w c x y → k ≡ c → get_or nodes root Unused ≡ Merge o w k x y
+cut_as nodes root {o = o} {w = w} {x = x} {y = y} is e = is ∙ ap (λ (n : ℕ). Merge o w n x y) (sym e)

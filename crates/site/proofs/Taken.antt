@@ -1,5 +1,5 @@
 -- One record taken from the file.
-use Rattle.std.proofs.Common.{◌≡◌, ℕ, suc, ◌+◌, ◌-◌, ◌*◌, ◌^◌, ◌<◌, ◌≤◌, true, List, [], ◌∷◌, ◌++◌, length, Some, None, Ok, Err, Result, sym, refl, ap, ◌∙◌, subst, mul-le-mul_right, suc-mul, add-one, arith}
+use Rattle.std.proofs.Common.{◌≡◌, ℕ, suc, ◌+◌, ◌-◌, ◌*◌, ◌^◌, ◌<◌, ◌≤◌, true, List, ◌++◌, length, Some, None, Ok, Err, Option, Result, sym, refl, ap, ◌∙◌, subst, mul-le-mul_right, suc-mul, add-one, arith}
 use Rattle.std.proofs.lemmas.Bool.{cond-true, eqb-true, le-leb, ltb-true}
 use Rattle.questions.specs.Ask.{AllYes, Question, first_no}
 use Rattle.terrain.specs.Format.{Format, part}
@@ -61,18 +61,27 @@ asked_next e n i file h = let s : n - i ≡ suc (n - (i + 1)) = omega arith in a
 
 stopped_at_record : (e : Format) (n i : ℕ) (file : List ℕ) (x : Refusal) → i < n → first_no (record_asked e file i) ≡ Some x →
     first_no (questions_from e file (n - i) i) ≡ Some x
-stopped_at_record e n i file x h s = ap first_no (asked_next e n i file h) ∙ some_stopped (record_asked e file i) (tree_asked e file i ++ left_asked e n file i) x s
+stopped_at_record e n i file x h s =
+    cc (asked_next e n i file h, some_stopped (record_asked e file i) (tree_asked e file i ++ left_asked e n file i) x s)
 
 stopped_at_tree : (e : Format) (n i : ℕ) (file : List ℕ) (x : Refusal) → i < n → first_no (record_asked e file i) ≡ None →
     first_no (tree_asked e file i) ≡ Some x → first_no (questions_from e file (n - i) i) ≡ Some x
 stopped_at_tree e n i file x h p s =
-    ap first_no (asked_next e n i file h) ∙ all_passed (record_asked e file i) (tree_asked e file i ++ left_asked e n file i) p ∙ some_stopped (tree_asked e file i) (left_asked e n file i) x s
+    cc (
+      asked_next e n i file h,
+      all_passed (record_asked e file i) (tree_asked e file i ++ left_asked e n file i) p,
+      some_stopped (tree_asked e file i) (left_asked e n file i) x s,
+    )
 
 passed_record : (e : Format) (n i : ℕ) (file : List ℕ) → i < n → first_no (record_asked e file i) ≡ None →
     first_no (tree_asked e file i) ≡ None → first_no (questions_from e file (n - i) i) ≡ first_no (questions_from e file (n - (i + 1)) (i + 1))
 passed_record e n i file h p q =
-    ap first_no (asked_next e n i file h) ∙ all_passed (record_asked e file i) (tree_asked e file i ++ left_asked e n file i) p ∙ all_passed (tree_asked e file i) (left_asked e n file i) q
-    ∙ ap (λ (k : ℕ). first_no (questions_from e file (n - (i + 1)) k)) (sym (add-one i))
+    cc (
+      asked_next e n i file h,
+      all_passed (record_asked e file i) (tree_asked e file i ++ left_asked e n file i) p,
+      all_passed (tree_asked e file i) (left_asked e n file i) q,
+      add-one i,
+    )
 
 -- A volume that was let through is below 2^40.
 fits_below : (k : Kind) (v : ℕ) → volume_fits k v ≡ true → v < 2 ^ 40
@@ -102,47 +111,46 @@ filled_err e i file reader loading r x re h = subst (Filled e i file reader load
 seen_asked : (e : Format) (i at : ℕ) (file : List ℕ) (said : Record) (t : Table) (s : List Summary) → Building t s (waiting e file i) → t.count ≤ 1023 →
     at ≡ start_of e file i → said ≡ record_in e file i → questions_seen t s said at ≡ tree_asked e file i
 seen_asked e i at file said t s b few pe se =
-    same_questions t s (waiting e file i) said at b few
-    ∙ ap (λ (r : Record). tree_questions r at (waiting e file i)) se
-    ∙ ap (λ (k : ℕ). tree_questions (record_in e file i) k (waiting e file i)) pe
+    cc (same_questions t s (waiting e file i) said at b few)
 
 -- From record i on a reader's step gives what the file says there.
 module _ (e : Format) (reader : Reader) (loading : Loading) (more : MoreLeft e loading.table.count reader.file.now) (so_far : Reached e reader loading) where
   -- The record that was read is the file's record i.
-  read_is : (step : Result Record Refusal) → Some step ≡ next_record e reader.file.now reader.place.at →
+  read_is : (read : Option (Result Record Refusal)) (step : Result Record Refusal) → read ≡ next_record e reader.file.now reader.place.at → read ≡ Some step →
       step ≡ record_at e reader.file.now (start_of e reader.file.now loading.table.count)
-  read_is step s =
+  read_is read step answer is =
       let t = next_there e loading.table.count reader.place.at reader.file.now more so_far.place in
-      let z : Some step ≡ Some (record_at e reader.file.now (start_of e reader.file.now loading.table.count)) = s ∙ t in
+      let z : Some step ≡ Some (record_at e reader.file.now (start_of e reader.file.now loading.table.count)) = sym is ∙ answer ∙ t in
       cc
 
   -- A record that is refused gives the first no, however many records follow.
-  pub refused_record : (x : Refusal) → Some (Err x) ≡ next_record e reader.file.now reader.place.at →
+  pub refused_record : (read : Option (Result Record Refusal)) (x : Refusal) → read ≡ next_record e reader.file.now reader.place.at → read ≡ Some (Err x) →
       (n : ℕ) → loading.table.count + 1 ≤ n → first_no (questions_from e reader.file.now n 0) ≡ Some x
-  refused_record x read n h =
+  refused_record read x answer is n h =
       let i : ℕ = loading.table.count in
       so_far.asked n (omega arith)
-      ∙ stopped_at_record e n i reader.file.now x (omega arith) (verdict_err (first_no (record_asked e reader.file.now i)) x (record_in e reader.file.now i) (read_is (Err x) read))
+      ∙ stopped_at_record e n i reader.file.now x (omega arith)
+      (verdict_err (first_no (record_asked e reader.file.now i)) x (record_in e reader.file.now i) (read_is read (Err x) answer is))
 
   -- A record that was read and grown: the loader is one record further, or the answer is the first question answered no.
-  pub taken : (said : Record) (at : ℕ) (next : Reader) (after : Loading) (r : Result (Unit {0}) Refusal) →
-      Some (Ok said) ≡ next_record e reader.file.now reader.place.at → at ≡ reader.place.at → Grew loading after said at r →
+  pub taken : (read : Option (Result Record Refusal)) (said : Record) (at : ℕ) (next : Reader) (after : Loading) (r : Result (Unit {0}) Refusal) →
+      read ≡ next_record e reader.file.now reader.place.at → read ≡ Some (Ok said) → at ≡ reader.place.at → Grew loading after said at r →
       next.file ≡ reader.file → next.place.at ≡ place_after reader.file.now reader.place.at e.record_len →
       Filled e (loading.table.count + 1) reader.file.now next after r
-  taken said at next after (Ok u) read ae grew fe pe =
+  taken read said at next after (Ok u) answer is ae grew fe pe =
       let file : List ℕ = reader.file.now in
       let t : Table = loading.table in
       let s : List Summary = loading.waiting.items in
       let i : ℕ = t.count in
       let w : List Tree = waiting e file i in
-      let passed = verdict_ok (first_no (record_asked e file i)) said (record_in e file i) (read_is (Ok said) read) in
+      let passed = verdict_ok (first_no (record_asked e file i)) said (record_in e file i) (read_is read (Ok said) answer is) in
       let q = seen_asked e i at file said t s so_far.built (omega (arith, more.few)) (ae ∙ so_far.place) passed.1 in
       let none : first_no (questions_seen t s said at) ≡ None = (verdict_ok (first_no (questions_seen t s said at)) u tt grew.answer).0 in
       let yes : first_no (tree_questions said at w) ≡ None =
-      ap first_no (sym (same_questions t s w said at so_far.built (omega (arith, more.few)))) ∙ none in
+      cc (same_questions t s w said at so_far.built (omega (arith, more.few))) in
       let fits : volume_fits said.kind said.own ≡ true =
       subst (λ (x : Record). volume_fits x.kind x.own ≡ true) (sym passed.1) (all_yes (record_asked e file i) passed.0).1.1.0 in
-      let g : grown i said w ≡ waiting e file (i + 1) = ap (λ (x : Record). grown i x w) passed.1 ∙ ap (waiting e file) (sym (add-one i)) in
+      let g : grown i said w ≡ waiting e file (i + 1) = cc (passed.1, add-one i) in
       let b = built_more t s w said at so_far.built more.few (fits_below said.kind said.own fits) yes in
       let b' : Building after.table after.waiting.items (waiting e file (i + 1)) =
       subst (λ (x : Table). Building x after.waiting.items (waiting e file (i + 1))) (sym (grew.table refl))
@@ -150,8 +158,7 @@ module _ (e : Format) (reader : Reader) (loading : Loading) (more : MoreLeft e l
       (subst (Building (table_after t said s) (summaries_after said.kind i s)) g b)) in
       let y : AllYes (tree_questions said at w) = all_yes (tree_questions said at w) yes in
       let list : listed (waiting e file (i + 1)) ≡ records_in e file (i + 1) =
-      ap listed (sym g) ∙ listed_more i said w y.0 y.1.0 fits ∙ ap (λ (x : Record). listed w ++ (x ∷ [])) passed.1
-      ∙ ap (λ (x : List Record). x ++ (record_in e file i ∷ [])) so_far.listed ∙ ap (records_in e file) (sym (add-one i)) in
+      cc (listed_more i said w y.0 y.1.0 fits, passed.1, add-one i) in
       let behind : start_of e file i + e.record_len ≤ length file = omega (arith, more.there) in
       let place : next.place.at ≡ start_of e file (i + 1) =
       pe ∙ ap (λ (k : ℕ). place_after file k e.record_len) so_far.place ∙ cond-true _ _ _ (le-leb _ _ behind) ∙ sym (next_start e file i) in
@@ -160,11 +167,11 @@ module _ (e : Format) (reader : Reader) (loading : Loading) (more : MoreLeft e l
             so_far.asked n (omega arith) ∙ passed_record e n i file (omega arith) passed.0 (ap first_no (sym q) ∙ none)),
         count,
       )
-  taken said at next after (Err x) read ae grew fe pe = λ n h.
+  taken read said at next after (Err x) answer is ae grew fe pe = λ n h.
       let file : List ℕ = reader.file.now in
       let t : Table = loading.table in
       let s : List Summary = loading.waiting.items in
-      let passed = verdict_ok (first_no (record_asked e file t.count)) said (record_in e file t.count) (read_is (Ok said) read) in
+      let passed = verdict_ok (first_no (record_asked e file t.count)) said (record_in e file t.count) (read_is read (Ok said) answer is) in
       let q = seen_asked e t.count at file said t s so_far.built (omega (arith, more.few)) (ae ∙ so_far.place) passed.1 in
       let some = verdict_err (first_no (questions_seen t s said at)) x tt grew.answer in
       so_far.asked n (omega arith) ∙ stopped_at_tree e n t.count file x (omega arith) passed.0 (ap first_no (sym q) ∙ some)

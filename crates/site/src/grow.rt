@@ -45,13 +45,10 @@ impl Loading<'_> {
     fn lands(&self, said: &Record, left: Summary, right: Summary) -> bool
         ensures { result ≡ (leaf_among self.now.table.nodes said.now.left left.first right.first && leaf_among self.now.table.nodes said.now.right right.first self.now.table.count) }
     {
+        let table = &self.table;
         let cut = usize::from(right.first);
-        let on_left = self
-            .table
-            .has_leaf(usize::from(said.left), usize::from(left.first), cut);
-        let on_right = self
-            .table
-            .has_leaf(usize::from(said.right), cut, self.table.count());
+        let on_left = table.has_leaf(usize::from(said.left), usize::from(left.first), cut);
+        let on_right = table.has_leaf(usize::from(said.right), cut, table.count());
         on_left && on_right
     }
 

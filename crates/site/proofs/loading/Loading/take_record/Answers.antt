@@ -1,4 +1,4 @@
-use Rattle.std.proofs.Common.{ap, Err, sym, ◌∙◌}
+use Rattle.std.proofs.Common.{rules, ap, Err, ◌∙◌}
 use Rattle.std.proofs.lemmas.Result.{err_from_is_err_and}
 use Rattle.terrain.specs.Format.{Format, format}
 use Rattle.site.proofs.Taken.{filled_err, refused_record, taken}
@@ -9,11 +9,8 @@ returns-in_err-said-clause-done g c =
     let e : Format = format g.E.Edition.DIGIT g.E.Edition.RECORD_LEN g.E.ByteOrder.number in
     let p = err_from_is_err_and c.from_residual.result c.from_residual.ensures.1 in
     filled_err e _ _ _ _ _ c.in_err-said.field-0.0 (p.1 ∙ ap Err p.2)
-    (refused_record e c.args.reader.now c.args.self.now c.requires.more c.requires.reached c.in_err-said.field-0.0
-    (sym c.in_err-said.ensures ∙ c.record.ensures.answer))
+    (refused_record e c.args.reader.now c.args.self.now c.requires.more c.requires.reached c.record.result c.in_err-said.field-0.0
+    c.record.ensures.answer c.in_err-said.ensures)
 
 pub returns-clause-done : goal.returns-clause-done
-returns-clause-done g c =
-    let e : Format = format g.E.Edition.DIGIT g.E.Edition.RECORD_LEN g.E.ByteOrder.number in
-    taken e c.args.reader.now c.args.self.now c.requires.more c.requires.reached c.in_ok-said.said c.place-at.result c.record.new.self c.grow.new.self c.grow.result
-    (sym c.in_ok-said.ensures ∙ c.record.ensures.answer) c.place-at.ensures c.grow.ensures c.record.ensures.file c.record.ensures.place
+returns-clause-done g c = search (rules, taken)

@@ -1,4 +1,4 @@
-use Rattle.std.proofs.Common.{◌++◌, sym, refl, ap, ◌∙◌, arith}
+use Rattle.std.proofs.Common.{rules, ◌++◌, sym, ap, ◌∙◌, arith}
 use mathlib.Core.Logic.{∥∥₁_elim}
 use native.Mathlib.Bridge.{le_prop}
 use Rattle.water.specs.Tree.{Tree}
@@ -7,15 +7,12 @@ use Rattle.site.proofs.Sides.{merge_past}
 use Rattle.site.proofs.Pours.{alone, first_rooted, nothing, pours_merge, second_rooted, top_dry}
 use Rattle.site.proofs.table.Table.+pour.Goals as goal
 
-pub returns-then-litres-eq0 : goal.returns-then-litres-eq0
-returns-then-litres-eq0 t c =
+pub returns-then-litres-eq0-clause-water : goal.returns-then-litres-eq0-clause-water
+returns-then-litres-eq0-clause-water t c =
     let none = λ (tree : Tree). nothing c.args.leaf c.args.litres tree c.if-litres-eq0.true in
     record {
-      water = record {
-        water = λ before tree after s. s.stands ∙ ap (λ (x : Tree). before ++ (records x ++ after)) (sym (none tree).0);
-        rest = λ before tree after s. sym (none tree).1;
-      };
-      count = refl;
+      water = λ before tree after s. s.stands ∙ ap (λ (x : Tree). before ++ (records x ++ after)) (sym (none tree).0);
+      rest = λ before tree after s. sym (none tree).1;
     }
 
 pub fill_record-requires : goal.fill_record-requires
@@ -36,50 +33,26 @@ returns-in_default t c =
 
 pub sides_from-sides-requires : goal.sides_from-sides-requires
 sides_from-sides-requires t c =
-    let m = c.in-Merge in
-    let past = merge_past c.args.self.now.nodes c.args.root m.own m.water m.cut m.left m.right m.is c.args.litres c.requires.rooted in
+    let past = merge_past c.args.self.now.nodes c.args.root c.in-Merge.is c.args.litres c.requires.rooted in
     record { has_left = past.0; has_right = omega (arith, past.0, past.1) }
 
 pub pour-spilled-requires : goal.pour-spilled-requires
 pour-spilled-requires t c =
-    let m = c.in-Merge in
-    let d = c.sides_from-sides.result in
     let one =
-    first_rooted c.args.self.now.nodes c.args.root m.own m.water m.cut m.left m.right m.is
-    c.args.leaf c.args.litres d.first d.second d.landing c.sides_from-sides.ensures c.requires.rooted in
+    first_rooted c.args.self.now.nodes c.args.root c.in-Merge.is c.args.litres c.sides_from-sides.ensures c.requires.rooted in
     (omega (arith, c.decreases, one.0), (omega (arith, c.requires.place, one.0), one.1))
 
 pub pour-rest-requires : goal.pour-rest-requires
 pour-rest-requires t c =
-    let m = c.in-Merge in
-    let d = c.sides_from-sides.result in
     let two =
-    second_rooted c.args.self.now.nodes c.args.root m.own m.water m.cut m.left m.right m.is
-    c.args.leaf c.args.litres d.first d.second d.landing c.sides_from-sides.ensures
-    c.pour-spilled.new.self.nodes c.pour-spilled.result c.pour-spilled.ensures.water c.requires.rooted in
+    second_rooted c.args.self.now.nodes c.args.root c.in-Merge.is c.args.litres c.sides_from-sides.ensures
+    c.pour-spilled.ensures.water c.requires.rooted in
     (omega (arith, c.decreases, two.0), (omega (arith, c.requires.place, two.0), two.1))
 
-pub fill_record-requires-2 : goal.fill_record-requires-2
-fill_record-requires-2 t c =
-    let m = c.in-Merge in
-    let d = c.sides_from-sides.result in
-    let dry =
-    top_dry c.args.self.now.nodes c.args.root m.own m.water m.cut m.left m.right m.is
-    c.args.leaf c.args.litres d.first d.second d.landing c.sides_from-sides.ensures
-    c.pour-spilled.new.self.nodes c.pour-spilled.result c.pour-spilled.ensures.water
-    c.pour-rest.new.self.nodes c.pour-rest.result c.pour-rest.ensures.water c.requires.rooted in
-    record { inside = c.requires.place; litres_fit = omega (arith, dry, c.pour-rest.type_inv) }
+pub fill_record-requires-2-clause-litres_fit : goal.fill_record-requires-2-clause-litres_fit
+fill_record-requires-2-clause-litres_fit t c =
+    let dry = top_dry c.args.self.now.nodes c.args.root c.in-Merge.is c.args.litres c.sides_from-sides.ensures c.pour-spilled.ensures.water c.pour-rest.ensures.water c.requires.rooted in
+    omega (arith, dry, c.pour-rest.type_inv)
 
-pub returns : goal.returns
-returns t c =
-    let m = c.in-Merge in
-    let d = c.sides_from-sides.result in
-    record {
-      water =
-          pours_merge c.args.self.now.nodes c.args.root m.own m.water m.cut m.left m.right m.is
-          c.args.leaf c.args.litres d.first d.second d.landing c.sides_from-sides.ensures
-          c.pour-spilled.new.self.nodes c.pour-spilled.result c.pour-spilled.ensures.water
-          c.pour-rest.new.self.nodes c.pour-rest.result c.pour-rest.ensures.water
-          c.fill_record-2.new.self.nodes c.fill_record-2.result c.fill_record-2.ensures.water c.fill_record-2.ensures.rest;
-      count = c.fill_record-2.ensures.count ∙ c.pour-rest.ensures.count ∙ c.pour-spilled.ensures.count;
-    }
+pub returns-clause-water : goal.returns-clause-water
+returns-clause-water t c = search (rules, pours_merge)
