@@ -1,6 +1,5 @@
 // Numbers in row order, over a slice that the caller lends.
-ghost use Rattle.raster.specs.Plain.{in_row_order, number_at};
-ghost use Rattle.std.specs.Prelude.{◌≡◌};
+ghost use Rattle.raster.specs.Plain.{in_row_order};
 
 use crate::raster::{NO_NUMBER, Raster};
 use crate::size::Size;
@@ -10,16 +9,6 @@ use crate::size::Size;
 pub struct Plain<'a> {
     pub size: Size,
     pub numbers: &'a [u64],
-}
-
-// The number at a place, if there is one.
-fn number_at(numbers: &[u64], place: usize) -> u64
-    ensures { result ≡ number_at numbers.now place }
-{
-    match numbers.get(place) {
-        Some(number) => *number,
-        None => NO_NUMBER,
-    }
 }
 
 impl Raster for Plain<'_> {
@@ -37,6 +26,7 @@ impl Raster for Plain<'_> {
         if !self.size.has(row, col) {
             return NO_NUMBER;
         }
-        number_at(self.numbers, self.size.place(row, col))
+        let place = self.size.place(row, col);
+        self.numbers.get(place).copied().unwrap_or(NO_NUMBER)
     }
 }

@@ -1,6 +1,6 @@
 // Any raster, moved over its own rows and columns.
 ghost use Rattle.raster.specs.Shifted.{shifted_by, source};
-ghost use Rattle.std.specs.Prelude.{◌≡◌, pos, ◌-ℤ◌};
+ghost use Rattle.std.specs.Prelude.{◌≡◌};
 
 use crate::raster::{NO_NUMBER, Raster};
 use crate::size::Size;
@@ -13,22 +13,12 @@ pub struct Shifted<R> {
     pub dc: i32,
 }
 
-// Where what is shown at `at` was before a shift.
-fn before_shift(at: u16, by: i32) -> i64
-    ensures { result ≡ pos at -ℤ by }
-{
-    i64::from(at) - i64::from(by)
-}
-
 // The place, of `count`, that is shown at `at` after a shift.
 fn shown_from(at: u16, by: i32, count: u16) -> Option<u16>
     ensures { result ≡ source at by count }
 {
-    let from = before_shift(at, by);
-    if from < 0 || from >= i64::from(count) {
-        return None;
-    }
-    Some(from as u16)
+    let from = i64::from(at) - i64::from(by);
+    u16::try_from(from).ok().filter(|from| *from < count)
 }
 
 impl<R: Raster> Raster for Shifted<R> {
@@ -47,12 +37,8 @@ impl<R: Raster> Raster for Shifted<R> {
         if !size.has(row, col) {
             return NO_NUMBER;
         }
-        let Some(from_row) = shown_from(row, self.dr, size.rows) else {
-            return 0;
-        };
-        let Some(from_col) = shown_from(col, self.dc, size.cols) else {
-            return 0;
-        };
-        self.below.cell(from_row, from_col)
+        let from_row = shown_from(row, self.dr, size.rows);
+        let from_col = shown_from(col, self.dc, size.cols);
+        from_row.zip(from_col).map_or(0, |(row, col)| self.below.cell(row, col))
     }
 }

@@ -34,6 +34,6 @@ impl Size {
     pub fn place(self, row: u16, col: u16) -> usize
         ensures { result ≡ row * self.cols + col }
     {
-        row as usize * self.cols as usize + col as usize
+        usize::from(row) * usize::from(self.cols) + usize::from(col)
     }
 }

@@ -22,7 +22,7 @@ fn weigh(number: u64, p: u16, q: u16) -> u64
     if number > MOST_WEIGHED || q == 0 {
         return NO_NUMBER;
     }
-    number * p as u64 / q as u64
+    number * u64::from(p) / u64::from(q)
 }
 
 impl<R: Raster> Raster for Weighted<R> {
