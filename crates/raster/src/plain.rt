@@ -5,7 +5,7 @@ use crate::raster::{NO_NUMBER, Raster};
 use crate::size::Size;
 
 /// Row after row. A cell past the end of the numbers has none.
-#[derive(Clone, Copy)]
+#[derive(Clone, Copy, Debug, PartialEq, Eq)]
 pub struct Plain<'a> {
     pub size: Size,
     pub numbers: &'a [u64],
@@ -23,10 +23,9 @@ impl Raster for Plain<'_> {
     }
 
     fn cell(&self, row: u16, col: u16) -> u64 {
-        if !self.size.has(row, col) {
-            return NO_NUMBER;
-        }
         let place = self.size.place(row, col);
-        self.numbers.get(place).copied().unwrap_or(NO_NUMBER)
+        self.size.number_at(row, col, || {
+            self.numbers.get(place).copied().unwrap_or(NO_NUMBER)
+        })
     }
 }

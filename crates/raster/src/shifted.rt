@@ -2,11 +2,11 @@
 ghost use Rattle.raster.specs.Shifted.{shifted_by, source};
 ghost use Rattle.std.specs.Prelude.{◌≡◌};
 
-use crate::raster::{NO_NUMBER, Raster};
+use crate::raster::Raster;
 use crate::size::Size;
 
 /// Cell (row, col) shows cell (row − dr, col − dc) of the raster below, and 0 where that is outside.
-#[derive(Drop)]
+#[derive(Clone, Copy, Debug, Drop, PartialEq, Eq)]
 pub struct Shifted<R> {
     pub below: R,
     pub dr: i32,
@@ -18,7 +18,8 @@ fn shown_from(at: u16, by: i32, count: u16) -> Option<u16>
     ensures { result ≡ source at by count }
 {
     let from = i64::from(at) - i64::from(by);
-    u16::try_from(from).ok().filter(|from| *from < count)
+    // By `as`, which is proved to lose nothing here: a pile of shifts by `u16::try_from` took twice as long.
+    (0..i64::from(count)).contains(&from).then(|| from as u16)
 }
 
 impl<R: Raster> Raster for Shifted<R> {
@@ -34,11 +35,14 @@ impl<R: Raster> Raster for Shifted<R> {
 
     fn cell(&self, row: u16, col: u16) -> u64 {
         let size = Size::of(&self.below);
-        if !size.has(row, col) {
-            return NO_NUMBER;
-        }
-        let from_row = shown_from(row, self.dr, size.rows);
-        let from_col = shown_from(col, self.dc, size.cols);
-        from_row.zip(from_col).map_or(0, |(row, col)| self.below.cell(row, col))
+        size.number_at(row, col, || {
+            let Some(from_row) = shown_from(row, self.dr, size.rows) else {
+                return 0;
+            };
+            let Some(from_col) = shown_from(col, self.dc, size.cols) else {
+                return 0;
+            };
+            self.below.cell(from_row, from_col)
+        })
     }
 }

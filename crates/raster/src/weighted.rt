@@ -8,7 +8,7 @@ use crate::raster::{NO_NUMBER, Raster};
 pub const MOST_WEIGHED: u64 = 4_294_967_295;
 
 /// Each number of the raster below times p divided by q, rounded down.
-#[derive(Drop)]
+#[derive(Clone, Copy, Debug, Drop, PartialEq, Eq)]
 pub struct Weighted<R> {
     pub below: R,
     pub p: u16,
