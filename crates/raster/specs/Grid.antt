@@ -1,5 +1,5 @@
 -- What a raster means.
-use Rattle.std.specs.Prelude.{ℕ, ◌-◌, ◌^◌, Bool, cond, ◌&&◌, nat_lt}
+use Rattle.std.specs.Prelude.{ℕ, ◌-◌, ◌^◌, Bool, if◌then◌else◌, ◌&&◌, nat_lt}
 
 -- So many rows and columns, and one number for each cell.
 pub record Grid : Type 0 where
@@ -21,4 +21,4 @@ inside rows cols row col = nat_lt row rows && nat_lt col cols
 
 -- What a question about a cell is answered: inside its number, outside that there is none.
 abbrev pub cell_of : Grid → (row col : ℕ) → ℕ
-cell_of g row col = cond (inside g.rows g.cols row col) (g.at row col) no_number
+cell_of g row col = if inside g.rows g.cols row col then g.at row col else no_number

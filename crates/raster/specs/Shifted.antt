@@ -1,10 +1,10 @@
 -- A grid that is moved over its own rows and columns.
-use Rattle.std.specs.Prelude.{ℕ, cond, ℤ, pos, negsuc, ◌-ℤ◌, Some, None, Option, nat_lt}
+use Rattle.std.specs.Prelude.{ℕ, if◌then◌else◌, ℤ, pos, negsuc, ◌-ℤ◌, Some, None, Option, nat_lt}
 use Rattle.raster.specs.Grid.{Grid, grid}
 
 -- The place, if it is one of so many.
 abbrev pub among : ℕ → ℤ → Option ℕ
-among count (pos n) = cond (nat_lt n count) (Some n) None
+among count (pos n) = if nat_lt n count then Some n else None
 among count (negsuc n) = None
 
 -- The place, of so many, that is shown at a place after a shift.

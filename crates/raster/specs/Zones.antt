@@ -1,5 +1,5 @@
 -- Rectangles of one number each.
-use Rattle.std.specs.Prelude.{◌≡◌, ℕ, ◌+◌, ◌<◌, Bool, true, false, cond, ◌&&◌, List, [], ◌∷◌, length, nat_le, nat_lt, slice_index_or}
+use Rattle.std.specs.Prelude.{◌≡◌, ℕ, ◌+◌, ◌<◌, Bool, true, false, if◌then◌else◌, ◌&&◌, List, [], ◌∷◌, length, nat_le, nat_lt, slice_index_or}
 use Rattle.raster.specs.Grid.{Grid, grid}
 use Rattle.raster.specs.declared.zones.Zone.{Zone}
 
@@ -14,7 +14,7 @@ covers z row col = spans z.top z.height row && spans z.left z.width col
 -- The number of the first zone that covers the cell, and 0 where none does.
 abbrev pub first_covering : List Zone → (row col : ℕ) → ℕ
 first_covering [] row col = 0
-first_covering (z ∷ zs) row col = cond (covers z row col) z.number (first_covering zs row col)
+first_covering (z ∷ zs) row col = if covers z row col then z.number else first_covering zs row col
 
 -- Each cell has the number of the first zone that covers it.
 abbrev pub zoned : (rows cols : ℕ) → List Zone → Grid

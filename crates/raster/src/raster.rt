@@ -3,9 +3,11 @@ ghost use Rattle.raster.specs.Grid.{Grid, cell_of};
 ghost use Rattle.std.specs.Prelude.{◌≡◌};
 
 /// What is answered of a cell that has no number, or is outside.
+// A number and no `Option`: the rules of rasters ask for it, in the public answer too.
 pub const NO_NUMBER: u64 = u64::MAX;
 
 /// A raster means a grid, and answers just that.
+// It has these three methods by rule, and no fourth for a size, so each raster that holds one says its rows and columns.
 pub trait Raster {
     // What it means.
     ghost meaning: { Self → Grid };

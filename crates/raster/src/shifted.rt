@@ -1,34 +1,25 @@
 // Any raster, moved over its own rows and columns.
 ghost use Rattle.raster.specs.Shifted.{shifted_by, source};
-ghost use Rattle.std.specs.Prelude.{◌≡◌, pos, ◌-ℤ◌};
+ghost use Rattle.std.specs.Prelude.{◌≡◌};
 
-use crate::raster::{NO_NUMBER, Raster};
+use crate::raster::Raster;
 use crate::size::Size;
 
 /// Cell (row, col) shows cell (row − dr, col − dc) of the raster below, and 0 where that is outside.
-#[derive(Drop)]
+#[derive(Clone, Copy, Debug, Drop, PartialEq, Eq)]
 pub struct Shifted<R> {
     pub below: R,
     pub dr: i32,
     pub dc: i32,
 }
 
-// Where what is shown at `at` was before a shift.
-fn before_shift(at: u16, by: i32) -> i64
-    ensures { result ≡ pos at -ℤ by }
-{
-    i64::from(at) - i64::from(by)
-}
-
 // The place, of `count`, that is shown at `at` after a shift.
 fn shown_from(at: u16, by: i32, count: u16) -> Option<u16>
     ensures { result ≡ source at by count }
 {
-    let from = before_shift(at, by);
-    if from < 0 || from >= i64::from(count) {
-        return None;
-    }
-    Some(from as u16)
+    let from = i64::from(at) - i64::from(by);
+    // By `as`, which is proved to lose nothing here: a pile of shifts by `u16::try_from` took twice as long.
+    (0..i64::from(count)).contains(&from).then(|| from as u16)
 }
 
 impl<R: Raster> Raster for Shifted<R> {
@@ -44,15 +35,14 @@ impl<R: Raster> Raster for Shifted<R> {
 
     fn cell(&self, row: u16, col: u16) -> u64 {
         let size = Size::of(&self.below);
-        if !size.has(row, col) {
-            return NO_NUMBER;
-        }
-        let Some(from_row) = shown_from(row, self.dr, size.rows) else {
-            return 0;
-        };
-        let Some(from_col) = shown_from(col, self.dc, size.cols) else {
-            return 0;
-        };
-        self.below.cell(from_row, from_col)
+        size.number_at(row, col, || {
+            let Some(from_row) = shown_from(row, self.dr, size.rows) else {
+                return 0;
+            };
+            let Some(from_col) = shown_from(col, self.dc, size.cols) else {
+                return 0;
+            };
+            self.below.cell(from_row, from_col)
+        })
     }
 }

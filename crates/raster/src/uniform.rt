@@ -1,11 +1,11 @@
 // One number everywhere.
 ghost use Rattle.raster.specs.Uniform.{everywhere};
 
-use crate::raster::{NO_NUMBER, Raster};
+use crate::raster::Raster;
 use crate::size::Size;
 
 /// Every cell has the same number.
-#[derive(Clone, Copy)]
+#[derive(Clone, Copy, Debug, PartialEq, Eq)]
 pub struct Uniform {
     pub size: Size,
     pub number: u64,
@@ -23,9 +23,6 @@ impl Raster for Uniform {
     }
 
     fn cell(&self, row: u16, col: u16) -> u64 {
-        if !self.size.has(row, col) {
-            return NO_NUMBER;
-        }
-        self.number
+        self.size.number_at(row, col, || self.number)
     }
 }

@@ -8,7 +8,7 @@ use crate::raster::{NO_NUMBER, Raster};
 pub const MOST_WEIGHED: u64 = 4_294_967_295;
 
 /// Each number of the raster below times p divided by q, rounded down.
-#[derive(Drop)]
+#[derive(Clone, Copy, Debug, Drop, PartialEq, Eq)]
 pub struct Weighted<R> {
     pub below: R,
     pub p: u16,
@@ -22,7 +22,7 @@ fn weigh(number: u64, p: u16, q: u16) -> u64
     if number > MOST_WEIGHED || q == 0 {
         return NO_NUMBER;
     }
-    number * p as u64 / q as u64
+    number * u64::from(p) / u64::from(q)
 }
 
 impl<R: Raster> Raster for Weighted<R> {

@@ -1,13 +1,13 @@
 // Rectangles of one number each, over a slice that the caller lends.
 ghost use Rattle.raster.specs.Grid.{cell_of, inside};
 ghost use Rattle.raster.specs.Zones.{OfTheFirst, covers, spans, zoned};
-ghost use Rattle.std.specs.Prelude.{◌≡◌, true};
+ghost use Rattle.std.specs.Prelude.{◌≡◌, IsTrue};
 
-use crate::raster::{NO_NUMBER, Raster};
+use crate::raster::Raster;
 use crate::size::Size;
 
 /// A rectangle of cells and the number that they have.
-#[derive(Clone, Copy)]
+#[derive(Clone, Copy, Debug, PartialEq, Eq)]
 pub struct Zone {
     pub top: u16,
     pub left: u16,
@@ -33,13 +33,13 @@ impl Zone {
 }
 
 /// A cell has the number of the first zone that covers it, and 0 where none does.
-#[derive(Clone, Copy)]
+#[derive(Clone, Copy, Debug, PartialEq, Eq)]
 pub struct Zones<'a> {
     pub size: Size,
     pub zones: &'a [Zone],
 }
 
-// The number of the first zone that covers the cell.
+// The number of the first zone that covers the cell. A `for` that is left there, and no `find`: the form was asked for.
 fn first_number(zones: &[Zone], row: u16, col: u16) -> u64
     ensures { OfTheFirst zones.now row col result }
 {
@@ -62,13 +62,13 @@ impl Raster for Zones<'_> {
         self.size.cols
     }
 
+    // Clauses of its own stand in place of the trait's, so `answer` is said again beside `first`.
+    #[tactic(auto, using(crate::proofs::Covering::is_found))]
     fn cell(&self, row: u16, col: u16) -> u64
         ensures answer { result ≡ cell_of (zoned self.now.size.rows self.now.size.cols self.now.zones.now) row col }
-        ensures first { inside self.now.size.rows self.now.size.cols row col ≡ true → OfTheFirst self.now.zones.now row col result }
+        ensures first { IsTrue (inside self.now.size.rows self.now.size.cols row col) → OfTheFirst self.now.zones.now row col result }
     {
-        if !self.size.has(row, col) {
-            return NO_NUMBER;
-        }
-        first_number(self.zones, row, col)
+        self.size
+            .number_at(row, col, || first_number(self.zones, row, col))
     }
 }

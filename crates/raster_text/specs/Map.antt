@@ -1,14 +1,14 @@
 -- The text map of a grid.
-use Rattle.std.specs.Prelude.{ℕ, zero, suc, ◌+◌, cond, List, [], ◌++◌, codes, decimal, ◌==◌, nat_lt}
+use Rattle.std.specs.Prelude.{ℕ, zero, suc, ◌+◌, if◌then◌else◌, List, [], ◌++◌, codes, decimal, ◌==◌, nat_lt}
 use Rattle.raster.specs.Grid.{Grid, cell_of, no_number}
 
 -- A number in decimal, or a hyphen where there is none.
 abbrev pub number_text : ℕ → List ℕ
-number_text n = cond (n == no_number) (codes "-") (decimal n)
+number_text n = if n == no_number then codes "-" else decimal n
 
 -- What stands after a cell: a space, or after the last of so many the end of the line.
 abbrev pub after_cell : (cols col : ℕ) → List ℕ
-after_cell cols col = cond (nat_lt (col + 1) cols) (codes " ") (codes "\n")
+after_cell cols col = if nat_lt (col + 1) cols then codes " " else codes "\n"
 
 -- The first so many texts, one after another.
 abbrev pub joined : (ℕ → List ℕ) → ℕ → List ℕ

@@ -4,4 +4,4 @@
 // A map with a line for each row.
 mod map;
 
-pub use map::map_text;
+pub use map::{Map, map_text};

@@ -1,69 +1,72 @@
 // The text map of a raster: a line for each row, with single spaces between the cells.
-ghost use Rattle.std.specs.Prelude.{◌≡◌, ◌<◌, ◌++◌, IfOk, string_bytes, OnOk};
-ghost use Rattle.raster_text.specs.Map.{after_cell, cell_text, map_text, number_text, row_text};
+ghost use Rattle.std.specs.Prelude.{◌≡◌, IfOk, Some, string_bytes};
+ghost use Rattle.raster_text.specs.Map.{map_text, number_text, row_text};
 
 use raster::{NO_NUMBER, Raster};
 use std::alloc::{AllocError, Global};
+use std::fmt;
 
 // A number in decimal, or a hyphen where there is none.
-fn number_text(heap: Global, number: u64) -> Result<String, AllocError>
-    ensures { IfOk result (λ s. string_bytes s ≡ number_text number) }
-{
-    if number == NO_NUMBER {
-        return String::from_str(heap, "-");
-    }
-    format!(in heap; "{number}")
-}
+#[derive(Clone, Copy)]
+struct Number(u64);
 
-// What stands after a cell.
-fn after_cell(cols: u16, col: u16) -> &'static str
-    ensures { result.now ≡ after_cell cols col }
-{
-    if col.saturating_add(1) < cols {
-        " "
-    } else {
-        "\n"
+impl fmt::Display for Number {
+    ghost output = { λ n. Some (number_text n.0) };
+
+    fn fmt<W: fmt::Write>(&self, f: &mut fmt::Formatter<W>) -> fmt::Result {
+        match self.0 {
+            NO_NUMBER => f.write_str("-"),
+            number => write!(f, "{number}"),
+        }
     }
 }
 
-// Appends a cell.
-fn push_cell<R: Raster>(
-    heap: Global,
-    text: &mut String,
-    raster: &R,
+// One row of a raster, as a line.
+#[derive(Drop)]
+struct Row<'a, R> {
+    raster: &'a R,
     row: u16,
-    col: u16,
-) -> Result<(), AllocError>
-    ensures { OnOk result (string_bytes text.new ≡ string_bytes text.old ++ cell_text (R.Raster.meaning raster.now) row col) }
-{
-    let number = number_text(heap, raster.cell(row, col))?;
-    text.push_str(number.as_str())?;
-    text.push_str(after_cell(raster.cols(), col))?;
-    Ok(())
 }
 
-// Appends a row.
-fn push_row<R: Raster>(
-    heap: Global,
-    text: &mut String,
-    raster: &R,
-    row: u16,
-) -> Result<(), AllocError>
-    ensures { OnOk result (string_bytes text.new ≡ string_bytes text.old ++ row_text (R.Raster.meaning raster.now) row) }
-{
-    for col in 0..raster.cols() {
-        push_cell(heap, text, raster, row, col)?;
+impl<R: Raster> fmt::Display for Row<'_, R> {
+    ghost output = { λ r. Some (row_text (R.Raster.meaning r.raster.now) r.row) };
+
+    fn fmt<W: fmt::Write>(&self, f: &mut fmt::Formatter<W>) -> fmt::Result {
+        let cols = self.raster.cols();
+        for col in 0..cols {
+            let number = Number(self.raster.cell(self.row, col));
+            if col + 1 < cols {
+                write!(f, "{number} ")?;
+            } else {
+                writeln!(f, "{number}")?;
+            }
+        }
+        Ok(())
     }
-    Ok(())
+}
+
+/// A raster as a text map: a line for each row.
+#[derive(Clone, Copy, Debug, Drop, PartialEq, Eq)]
+pub struct Map<R>(pub R);
+
+impl<R: Raster> fmt::Display for Map<R> {
+    ghost output = { λ m. Some (map_text (R.Raster.meaning m.0)) };
+
+    fn fmt<W: fmt::Write>(&self, f: &mut fmt::Formatter<W>) -> fmt::Result {
+        for row in 0..self.0.rows() {
+            let line = Row {
+                raster: &self.0,
+                row,
+            };
+            write!(f, "{line}")?;
+        }
+        Ok(())
+    }
 }
 
 /// A line for each row: the numbers of its cells, with a hyphen where there is none.
 pub fn map_text<R: Raster>(heap: Global, raster: &R) -> Result<String, AllocError>
     ensures { IfOk result (λ s. string_bytes s ≡ map_text (R.Raster.meaning raster.now)) }
 {
-    let mut text = String::new(heap);
-    for row in 0..raster.rows() {
-        push_row(heap, &mut text, raster, row)?;
-    }
-    Ok(text)
+    Map(raster).to_string(heap)
 }
