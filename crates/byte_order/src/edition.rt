@@ -22,7 +22,8 @@ pub trait Edition: ByteOrder {
     // The same, for clauses.
     ghost RECORD_LEN: { ℕ };
 
-    // The number in a record's volume field, if the field has this edition's width.
+    // The number in a record's volume field, if the field has this edition's width. Two bodies of one shape: a single one
+    // would need an array of a computed length, or two more conversions on each width of number.
     fn volume(field: &[u8]) -> Option<u64>
         ensures answer { result ≡ volume_in Self.number RECORD_LEN field.now };
 

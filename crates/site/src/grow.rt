@@ -104,7 +104,8 @@ impl Loading<'_> {
         Ok(())
     }
 
-    /// Asks the tree's questions of a record, and puts it into the table.
+    /// Asks the tree's questions of a record, and puts it into the table. That a place is left is no invariant: it ends
+    /// with the last record.
     pub(crate) fn grow(&mut self, placed: &Placed) -> Result<(), Refusal>
         requires { self.old.table.count < 1023 }
         ensures { Grew self.old self.new placed.now.said placed.now.at result }

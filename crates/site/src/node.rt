@@ -6,6 +6,7 @@ ghost use Rattle.site.specs.Measures.{own_in};
 
 /// A record with its own volume and its water, in litres. A merge also has the first record number of its
 /// right side, and the leaf on each side where water that spills over its saddle lands.
+// A merge names its sides by numbers, and no `Box`: the tree lies in one table of fixed size, in the order of the file.
 #[derive(Clone, Copy, Debug, PartialEq, Eq)]
 pub enum Node {
     Unused,

@@ -5,6 +5,7 @@ use std::marker::Model;
 mod ops;
 
 // The first `count` items are on the stack, the newest last; the places after them are free.
+// A lent slice and a count, and no `Vec`: a stack serves code that may not allocate.
 #[derive(Drop)]
 pub struct Stack<'a, T> {
     items: &'a mut [T],

@@ -90,6 +90,7 @@ fn numbers<E: Edition>(
         });
     }
     let distance: u32 = E::read([d0, d1, d2, d3]);
+    // By `as`: 32 bits have no `From` to `usize`, and `try_from` would add an error that cannot come.
     let back = distance as usize;
     if back != usize::from(count) * E::RECORD_LEN || back > before {
         return Err(Refusal::Distance {
@@ -127,6 +128,7 @@ impl Trailer {
                 at: total - 6,
             });
         }
+        // An arm for each edition, which is a type: no closure and no `dyn` is generic over types.
         match edition {
             EditionName::First => numbers::<Edition1>(edition, tail, total),
             EditionName::Second => numbers::<Edition2>(edition, tail, total),

@@ -17,6 +17,7 @@ fn read_table(file: &[u8]) -> Result<Table, Refusal>
     let mut reader = Reader::new(file);
     let trailer = reader.trailer()?;
     let end = file.len() - TRAILER_LEN;
+    // An arm for each edition, which is a type: no closure and no `dyn` is generic over types.
     match trailer.edition {
         EditionName::First => build::<Edition1>(&mut reader, &trailer, end),
         EditionName::Second => build::<Edition2>(&mut reader, &trailer, end),

@@ -19,6 +19,7 @@ impl Site {
     pub(crate) fn leaf_place(&self, leaf: Leaf) -> Result<usize, Refusal>
         ensures { result ≡ verdict (first_no (level_questions leaf self.now)) leaf.0 }
     {
+        // By `as`: 64 bits have no `From` to `usize`, and `try_from` would add an error that cannot come.
         let place = leaf.0 as usize;
         let count = self.table.count();
         if !self.table.has_leaf(place, 0, count) {
