@@ -9,8 +9,7 @@ use stack::Stack;
 
 /// The sum of the own volumes.
 pub(crate) fn total_volume(nodes: &[Node]) -> u64
-    requires few { length nodes.now ≤ 1023 }
-    requires volumes_fit { (k : ℕ) → own_in (slice_index_or nodes.now k Unused) < 2 ^ 40 }
+    requires { own_sum nodes.now < 2 ^ 64 }
     ensures { result ≡ own_sum nodes.now }
 {
     nodes.iter().map(Node::own_volume).sum()

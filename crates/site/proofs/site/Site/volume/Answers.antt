@@ -1,12 +1,12 @@
 use Rattle.std.proofs.Common.{ap, ◌∙◌}
 use Rattle.site.specs.Measures.{own_sum}
-use Rattle.site.proofs.Holding.{used, used_small}
+use Rattle.site.proofs.Holding.{used, used_own}
 use Rattle.site.proofs.Measured.{volume_is}
 use Rattle.site.proofs.OneTree.{held_is}
 use Rattle.site.proofs.site.Site.volume.Goals as goal
 
-pub total_volume-requires-clause-volumes_fit : goal.total_volume-requires-clause-volumes_fit
-total_volume-requires-clause-volumes_fit c = used_small c.self.invariant c.used.ensures
+pub total_volume-requires : goal.total_volume-requires
+total_volume-requires c = used_own c.self.invariant c.used.ensures
 
 pub returns : goal.returns
 returns c =
