@@ -21,10 +21,10 @@ right_after z zs row col n e right =
 step : (z : Zone) (zs : List Zone) (row col n : ℕ) (b : Bool) → covers z row col ≡ b
     → (OfTheFirst zs row col n → n ≡ first_covering zs row col) → OfTheFirst (z ∷ zs) row col n
     → n ≡ cond b z.number (first_covering zs row col)
-step z zs row col n true e others right = right.first 0 (omega arith) e (λ k h. let z : ⊥ = omega arith in absurd z)
+step z zs row col n true e others right = right.first 0 (omega arith) e (λ k h. absurd (omega arith))
 step z zs row col n false e others right = others (right_after z zs row col n e right)
 
 pub is_found : (zs : List Zone) (row col n : ℕ) → OfTheFirst zs row col n → n ≡ first_covering zs row col
-is_found [] row col n right = right.none (λ k h. let z : ⊥ = omega arith in absurd z)
+is_found [] row col n right = right.none (λ k h. absurd (omega arith))
 is_found (z ∷ zs) row col n right =
     step z zs row col n (covers z row col) refl (is_found zs row col n) right

@@ -19,7 +19,26 @@ fn shown_from(at: u16, by: i32, count: u16) -> Option<u16>
 {
     let from = i64::from(at) - i64::from(by);
     // By `as`, which is proved to lose nothing here: a pile of shifts by `u16::try_from` took twice as long.
-    (0..i64::from(count)).contains(&from).then(|| from as u16)
+    if (0..i64::from(count)).contains(&from) {
+        Some(from as u16)
+    } else {
+        None
+    }
+}
+
+impl<R: Raster> Shifted<R> {
+    // The number that the shift moves to a cell, or 0 where it moves none.
+    fn moved_to(&self, row: u16, col: u16) -> u64
+        ensures { result ≡ (shifted_by self.now.dr self.now.dc (R.Raster.meaning self.now.below)).at row col }
+    {
+        let Some(from_row) = shown_from(row, self.dr, self.below.rows()) else {
+            return 0;
+        };
+        let Some(from_col) = shown_from(col, self.dc, self.below.cols()) else {
+            return 0;
+        };
+        self.below.cell(from_row, from_col)
+    }
 }
 
 impl<R: Raster> Raster for Shifted<R> {
@@ -34,15 +53,6 @@ impl<R: Raster> Raster for Shifted<R> {
     }
 
     fn cell(&self, row: u16, col: u16) -> u64 {
-        let size = Size::of(&self.below);
-        size.number_at(row, col, || {
-            let Some(from_row) = shown_from(row, self.dr, size.rows) else {
-                return 0;
-            };
-            let Some(from_col) = shown_from(col, self.dc, size.cols) else {
-                return 0;
-            };
-            self.below.cell(from_row, from_col)
-        })
+        Size::of(&self.below).number_at(row, col, || self.moved_to(row, col))
     }
 }

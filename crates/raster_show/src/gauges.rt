@@ -9,7 +9,7 @@ pub fn three_quarters(litres: u32) -> u64
 {
     let gauge = Uniform {
         size: Size { rows: 1, cols: 1 },
-        number: litres as u64,
+        number: u64::from(litres),
     };
     let pile = Weighted {
         below: gauge,
@@ -28,7 +28,7 @@ pub fn half_of_a_moved_zone(number: u32) -> u64
         left: 4,
         height: 2,
         width: 2,
-        number: number as u64,
+        number: u64::from(number),
     }];
     let pile = Weighted {
         below: Shifted {

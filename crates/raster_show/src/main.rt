@@ -2,7 +2,7 @@
 #![tactic(auto)]
 
 use raster::{Plain, Raster, Shifted, Size, Weighted, Zone, Zones};
-use raster_text::map_text;
+use raster_text::Map;
 
 // What a user's contract over a pile looks like.
 mod gauges;
@@ -32,14 +32,13 @@ const ZONES: [Zone; 2] = [
 const NUMBERS: [u64; 10] = [0, 1, 2, 3, 10, 11, 12, 13, 20, 21];
 
 // A title and the map below it.
-fn show<R: Raster>(rt: &HostRuntime, title: &str, raster: &R) -> anyhow::Result<()> {
-    let text = map_text(rt.alloc(), raster)?;
+fn show(rt: &impl Print, title: &str, raster: &impl Raster) -> anyhow::Result<()> {
     println!(rt; "{title}")?;
-    rt.print(text)?;
+    rt.print(Map(raster))?;
     Ok(())
 }
 
-fn run(rt: &HostRuntime) -> anyhow::Result<()> {
+fn run(rt: &impl Print) -> anyhow::Result<()> {
     let zones = Zones {
         size: Size { rows: 5, cols: 8 },
         zones: &ZONES,

@@ -3,6 +3,8 @@ use crate::gauges::{half_of_a_moved_zone, three_quarters};
 use raster::{
     MOST_WEIGHED, NO_NUMBER, Plain, Raster, Shifted, Size, Uniform, Weighted, Zone, Zones,
 };
+use raster_text::map_text;
+use std::test::Fail;
 
 const NUMBERS: [u64; 6] = [10, 11, 12, 20, 21, 22];
 
@@ -219,6 +221,17 @@ fn piles_are_rasters(rt: HostRuntime) {
     assert_eq!(rt; twice.cell(1, 2), 3);
     assert_eq!(rt; twice.cell(0, 1), 0);
     assert_eq!(rt; twice.cell(1, 3), NO_NUMBER);
+}
+
+#[test]
+fn a_map_has_a_line_for_each_row(rt: HostRuntime) -> Result<(), Fail> {
+    let large = Plain {
+        size: Size { rows: 3, cols: 3 },
+        numbers: &NUMBERS,
+    };
+    let text = map_text(rt.alloc(), &large)?;
+    assert_eq!(rt; text.as_str(), "10 11 12\n20 21 22\n- - -\n");
+    Ok(())
 }
 
 #[test]
