@@ -21,6 +21,7 @@ pub trait Raster {
         ensures answer { result ≡ (meaning self.now).cols };
 
     /// The number of a cell, or `NO_NUMBER` outside.
+    // A row and a column, and no struct of both: each call would spell one out round what it has as two numbers.
     fn cell(&self, row: u16, col: u16) -> u64
         ensures answer { result ≡ cell_of (meaning self.now) row col };
 }

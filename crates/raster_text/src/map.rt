@@ -33,6 +33,7 @@ impl<R: Raster> fmt::Display for Row<'_, R> {
 
     fn fmt<W: fmt::Write>(&self, f: &mut fmt::Formatter<W>) -> fmt::Result {
         let cols = self.raster.cols();
+        // By its number, which a raster is asked by: it has no iterator.
         for col in 0..cols {
             let number = Number(self.raster.cell(self.row, col));
             if col + 1 < cols {
