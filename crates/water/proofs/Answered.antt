@@ -63,9 +63,6 @@ module _ (a : Leaf) (v : Litres) (s : State) where
         r ≡ verdict (first_no (rain_questions a v s)) tt
     rain_past_limit x r f g = g ∙ ap asked (sym (limit_asked ∙ verdict_err (first_no (limit_question v n ∷ [])) x (n + v.0) f))
 
-    pub rain_accepted : (k : ℕ) → Ok k ≡ verdict (first_no (limit_question v n ∷ [])) (n + v.0) → accepts ≡ verdict (first_no (rain_questions a v s)) tt
-    rain_accepted k f = ap asked (sym (limit_asked ∙ (verdict_ok (first_no (limit_question v n ∷ [])) k (n + v.0) f).0))
-
 -- Rain that is within the limit is counted.
 pub rain_counted : (v : Litres) (n k : ℕ) → Ok k ≡ verdict (first_no (limit_question v n ∷ [])) (n + v.0) → (k ≡ n + v.0) × (n + v.0 ≤ 2 ^ 60)
 rain_counted v n k f =

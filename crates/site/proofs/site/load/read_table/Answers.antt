@@ -1,4 +1,4 @@
-use Rattle.std.proofs.Common.{ℕ, ◌^◌, ◌<◌, List, length, Err, sym, ap, ◌∙◌, arith}
+use Rattle.std.proofs.Common.{ℕ, List, length, Err, sym, ap, ◌∙◌}
 use Rattle.std.proofs.lemmas.Result.{err_from_is_err_and}
 use Rattle.questions.specs.Ask.{first_no}
 use Rattle.terrain.specs.Trailer.{tail_of, trailer_of, trailer_questions}
@@ -18,14 +18,12 @@ returns-in_err-trailer c =
 
 pub returns-in-First : goal.returns-in-First
 returns-in-First c =
-    let b : length c.args.file.now < 2 ^ 64 = omega arith in
     let t = c.in_ok-trailer.ensures in
-    (handed First c.args.file.now c.in_ok-trailer.trailer c.new-reader.result c.trailer.new.self b c.new-reader.ensures.file c.new-reader.ensures.place t.unmoved t.answer c.in-First.is
-    ).whole c.build.result c.build.ensures
+    handed First c.args.file.now c.in_ok-trailer.trailer c.new-reader.result c.trailer.new.self c.new-reader.ensures.file t.unmoved t.answer c.in-First.is
+    c.build.result c.build.ensures
 
 pub returns-in-Second : goal.returns-in-Second
 returns-in-Second c =
-    let b : length c.args.file.now < 2 ^ 64 = omega arith in
     let t = c.in_ok-trailer.ensures in
-    (handed Second c.args.file.now c.in_ok-trailer.trailer c.new-reader.result c.trailer.new.self b c.new-reader.ensures.file c.new-reader.ensures.place t.unmoved t.answer c.in-Second.is
-    ).whole c.build-in-Second.result c.build-in-Second.ensures
+    handed Second c.args.file.now c.in_ok-trailer.trailer c.new-reader.result c.trailer.new.self c.new-reader.ensures.file t.unmoved t.answer c.in-Second.is
+    c.build-in-Second.result c.build-in-Second.ensures
