@@ -14,9 +14,7 @@ source at by count = among count (pos at -ℤ by)
 -- The number at a row and a column, if there are both, else 0.
 abbrev pub number_at : Grid → Option ℕ → Option ℕ → ℕ
 number_at g (Some row) (Some col) = g.at row col
-number_at g (Some row) None = 0
-number_at g None (Some col) = 0
-number_at g None None = 0
+number_at g _ _ = 0
 
 -- Cell (row, col) shows (row − dr, col − dc) of the grid below if that is inside, else 0.
 abbrev pub shifted_by : (dr dc : ℤ) → Grid → Grid

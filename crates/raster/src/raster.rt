@@ -7,7 +7,7 @@ ghost use Rattle.std.specs.Prelude.{◌≡◌};
 pub const NO_NUMBER: u64 = u64::MAX;
 
 /// A raster means a grid, and answers just that.
-// It has these three methods by rule, and no fourth for a size, so each raster that holds one says its rows and columns.
+// Three methods by rule, and none for a size: each raster that holds one says its rows and columns.
 pub trait Raster {
     // What it means.
     ghost meaning: { Self → Grid };

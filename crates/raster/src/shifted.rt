@@ -18,7 +18,7 @@ fn shown_from(at: u16, by: i32, count: u16) -> Option<u16>
     ensures { result ≡ source at by count }
 {
     let from = i64::from(at) - i64::from(by);
-    // By `as`, which is proved to lose nothing here: a pile of shifts by `u16::try_from` took twice as long.
+    // `as` is proved to lose nothing here; by `u16::try_from` a pile of shifts took twice as long.
     if (0..i64::from(count)).contains(&from) {
         Some(from as u16)
     } else {
@@ -29,7 +29,8 @@ fn shown_from(at: u16, by: i32, count: u16) -> Option<u16>
 impl<R: Raster> Shifted<R> {
     // The number that the shift moves to a cell, or 0 where it moves none.
     fn moved_to(&self, row: u16, col: u16) -> u64
-        ensures { result ≡ (shifted_by self.now.dr self.now.dc (R.Raster.meaning self.now.below)).at row col }
+        ensures { result
+            ≡ (shifted_by self.now.dr self.now.dc (R.Raster.meaning self.now.below)).at row col }
     {
         let Some(from_row) = shown_from(row, self.dr, self.below.rows()) else {
             return 0;

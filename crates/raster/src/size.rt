@@ -33,7 +33,8 @@ impl Size {
     // What a cell is answered: its number, asked for if the cell is inside, or that there is none.
     pub(crate) fn number_at<F: FnOnce() -> u64>(self, row: u16, col: u16, number: F) -> u64
         requires { IsTrue (inside self.rows self.cols row col) → F.pre number }
-        ensures { MatchBool (inside self.rows self.cols row col) (F.post number result) (result ≡ NO_NUMBER) }
+        ensures { MatchBool (inside self.rows self.cols row col) (F.post number result)
+            (result ≡ NO_NUMBER) }
     {
         if self.has(row, col) {
             number()

@@ -39,7 +39,8 @@ pub struct Zones<'a> {
     pub zones: &'a [Zone],
 }
 
-// The number of the first zone that covers the cell. A `for` that is left there, and no `find`: the form was asked for.
+// The number of the first zone that covers the cell.
+// A `for` that is left there, and no `find`: the form was asked for.
 fn first_number(zones: &[Zone], row: u16, col: u16) -> u64
     ensures { OfTheFirst zones.now row col result }
 {
@@ -65,8 +66,10 @@ impl Raster for Zones<'_> {
     // Clauses of its own stand in place of the trait's, so `answer` is said again beside `first`.
     #[tactic(auto, using(crate::proofs::Covering::is_found))]
     fn cell(&self, row: u16, col: u16) -> u64
-        ensures answer { result ≡ cell_of (zoned self.now.size.rows self.now.size.cols self.now.zones.now) row col }
-        ensures first { IsTrue (inside self.now.size.rows self.now.size.cols row col) → OfTheFirst self.now.zones.now row col result }
+        ensures answer { result
+            ≡ cell_of (zoned self.now.size.rows self.now.size.cols self.now.zones.now) row col }
+        ensures first { IsTrue (inside self.now.size.rows self.now.size.cols row col)
+            → OfTheFirst self.now.zones.now row col result }
     {
         self.size
             .number_at(row, col, || first_number(self.zones, row, col))
