@@ -40,6 +40,7 @@ fn one_by_one<const N: usize>(field: [u8; N]) -> [u8; N]
     field
 }
 
+// The library has its functions for each type, so each width has an impl; only the order of bytes is generic over them.
 impl Number for u16 {
     type Bytes = [u8; 2];
 
@@ -66,6 +67,7 @@ impl Number for u16 {
     }
 }
 
+// Four bytes.
 impl Number for u32 {
     type Bytes = [u8; 4];
 
@@ -92,6 +94,7 @@ impl Number for u32 {
     }
 }
 
+// Eight bytes.
 impl Number for u64 {
     type Bytes = [u8; 8];
 

@@ -41,6 +41,7 @@ pub trait ByteOrder {
 #[derive(Clone, Copy)]
 pub struct LittleEndian;
 
+// What the little-endian readers and writers of each number do.
 impl ByteOrder for LittleEndian {
     ghost number = { little };
 
@@ -69,6 +70,7 @@ impl ByteOrder for LittleEndian {
 #[derive(Clone, Copy)]
 pub struct BigEndian;
 
+// What the big-endian readers and writers of each number do.
 impl ByteOrder for BigEndian {
     ghost number = { big };
 

@@ -3,6 +3,7 @@ ghost use Rattle.console.specs.Answer.{after, reply_to};
 ghost use Rattle.console.specs.Grammar.{Reads};
 ghost use Rattle.console.specs.Reply.{reply_bytes};
 ghost use Rattle.console.specs.declared.command.Command.{Command as Asked};
+ghost use Rattle.water.specs.State.{Standing};
 ghost use Rattle.std.specs.Prelude.{◌≡◌, IfOk, Some as Just, string_bytes, Option as Maybe};
 
 use crate::command::Command;
@@ -16,6 +17,7 @@ fn reply_to(site: &mut Site, line: &[u8]) -> Reply
     ensures read { (c : Maybe Asked) × Reads line.now c }
     ensures reply { (c : Maybe Asked) → Reads line.now c → result ≡ reply_to c site.old }
     ensures state { (c : Maybe Asked) → Reads line.now c → site.new ≡ after c site.old }
+    ensures stands { Standing site.old → Standing site.new }
 {
     match Command::try_from(line)? {
         Command::Rain { leaf, litres } => {
@@ -33,6 +35,7 @@ pub fn answer(heap: Global, site: &mut Site, line: &[u8]) -> Result<String, Allo
     ensures read { (c : Maybe Asked) × Reads line.now c }
     ensures text { (c : Maybe Asked) → Reads line.now c → IfOk result (λ t. string_bytes t ≡ reply_bytes (reply_to c site.old)) }
     ensures state { (c : Maybe Asked) → Reads line.now c → site.new ≡ after c site.old }
+    ensures stands { Standing site.old → Standing site.new }
 {
     match reply_to(site, line) {
         Ok(answer) => format!(in heap; "{answer}\n"),

@@ -33,6 +33,7 @@ impl Refused for Refusal {
     }
 }
 
+/// A refusal of a call is one of the line that spells it.
 impl From<WaterRefusal> for Refusal {
     ghost from_gives = { λ why refusal. refusal ≡ Water why };
 
@@ -41,6 +42,7 @@ impl From<WaterRefusal> for Refusal {
     }
 }
 
+/// So is a refusal of the file that the console begins with.
 impl From<FileRefusal> for Refusal {
     ghost from_gives = { λ why refusal. refusal ≡ File why };
 
@@ -49,6 +51,7 @@ impl From<FileRefusal> for Refusal {
     }
 }
 
+/// A refusal is told by its number.
 impl fmt::Display for Refusal {
     ghost output = { λ refusal. Just (refusal_text refusal) };
 

@@ -20,6 +20,7 @@ pub enum Answer {
 /// The reply to one line: its answer, or why it is refused.
 pub type Reply = Result<Answer, Refusal>;
 
+/// An answer is told in one line, which has no end yet.
 impl fmt::Display for Answer {
     ghost output = { λ answer. Just (answer_text answer) };
 

@@ -34,6 +34,7 @@ impl Layer {
     }
 }
 
+/// A layer is told by its name.
 impl fmt::Display for Layer {
     ghost output = { λ layer. Some (layer_name layer) };
 

@@ -28,6 +28,7 @@ impl Told {
     }
 }
 
+/// The words `no`, the number, the layer and the place.
 impl fmt::Display for Told {
     ghost output = { λ t. Some (told_text t.number t.layer t.place) };
 

@@ -18,7 +18,7 @@ fn shown_from(at: u16, by: i32, count: u16) -> Option<u16>
     ensures { result ≡ source at by count }
 {
     let from = i64::from(at) - i64::from(by);
-    // `as` is proved to lose nothing here; by `u16::try_from` a pile of shifts took twice as long.
+    // `as` is proved to lose nothing here; by `u16::try_from` a pile of shifts took twice as long to run.
     if (0..i64::from(count)).contains(&from) {
         Some(from as u16)
     } else {

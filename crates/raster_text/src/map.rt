@@ -50,6 +50,7 @@ impl<R: Raster> fmt::Display for Row<'_, R> {
 #[derive(Clone, Copy, Debug, Drop, PartialEq, Eq)]
 pub struct Map<R>(pub R);
 
+// All lines, each with its end.
 impl<R: Raster> fmt::Display for Map<R> {
     ghost output = { λ m. Some (map_text (R.Raster.meaning m.0)) };
 

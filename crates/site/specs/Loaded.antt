@@ -2,7 +2,7 @@
 use Rattle.std.specs.Prelude.{◌≡◌, ℕ, true, List, is_ok, Some, None, Ok, Err, Result}
 use Rattle.questions.specs.Ask.{FirstNo, first_no, verdict}
 use Rattle.terrain.specs.declared.refusal.Refusal.{Refusal}
-use Rattle.water.specs.State.{State, untouched}
+use Rattle.water.specs.State.{Standing, State, untouched}
 use Rattle.water.specs.Tree.{Tree, dried}
 use Rattle.water.specs.Formed.{Formed}
 use Rattle.site.specs.Held.{tabled}
@@ -19,6 +19,7 @@ OnlyTree file =
 -- The site is in the state of exactly the tree that the records spell in postorder, dry, with all sums zero.
 pub record Loaded (file : List ℕ) (site : State) : Type 0 where
   pub state : site ≡ untouched (tree_in file)
+  pub stands : Standing (untouched (tree_in file))
   pub dry : dried (tree_in file) ≡ tree_in file
   pub spelled : postorder (tree_in file) ≡ records_in (format_in file) file (count_in file)
   pub only : OnlyTree file

@@ -19,7 +19,7 @@ pub(crate) struct Placed {
 
 impl Placed {
     // Refuses its landings.
-    fn landings(&self) -> Refusal
+    fn landings_refused(&self) -> Refusal
         ensures { result ≡ Landings self.now.said.left self.now.said.right (self.now.at + 2) }
     {
         Refusal::Landings {
@@ -35,7 +35,7 @@ impl Placed {
     {
         match (self.said.left, self.said.right) {
             (0, 0) => Ok(()),
-            _ => Err(self.landings()),
+            _ => Err(self.landings_refused()),
         }
     }
 }
@@ -64,7 +64,7 @@ impl Loading<'_> {
             return Err(Refusal::Waiting { waiting, at });
         };
         if !self.lands(&said, left, right) {
-            return Err(placed.landings());
+            return Err(placed.landings_refused());
         }
         let outlets = left.outlets.saturating_add(right.outlets);
         if outlets > 0 && said.own != 0 {

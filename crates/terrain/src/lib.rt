@@ -13,6 +13,6 @@ mod record;
 mod reader;
 
 pub use reader::Reader;
-pub use record::{Kind, Record};
+pub use record::{Kind, Record, UnknownKind};
 pub use refusal::Refusal;
-pub use trailer::{EditionName, MOST_RECORDS, TRAILER_LEN, Trailer};
+pub use trailer::{EditionName, MOST_RECORDS, TRAILER_LEN, Trailer, UnknownEdition};

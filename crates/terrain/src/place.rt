@@ -1,6 +1,6 @@
 // Where a reader stands, and a guard that puts it back.
 ghost use Rattle.std.specs.Option.{option_map};
-ghost use Rattle.std.specs.Prelude.{◌≡◌};
+ghost use Rattle.std.specs.Prelude.{◌≡◌, if◌then◌else◌, length, nat_le};
 ghost use Rattle.terrain.specs.Format.{last_of};
 
 /// The byte at which a reader stands.
@@ -28,6 +28,7 @@ impl<'p> Look<'p> {
     // Moves the place past the last `N` bytes of the file, and hands them out, if there are so many.
     pub(crate) fn last<'f, const N: usize>(&mut self, file: &'f [u8]) -> Option<&'f [u8; N]>
         ensures bytes { option_map (λ t. t.now) result ≡ last_of N file.now }
+        ensures moved { self.new.place.now.at ≡ (if nat_le N (length file.now) then length file.now else self.old.place.now.at) }
         ensures start { self.new.start ≡ self.old.start }
         ensures lent { self.new.place.ghost_name ≡ self.old.place.ghost_name }
     {

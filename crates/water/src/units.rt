@@ -11,6 +11,7 @@ pub struct Leaf(pub u64);
 #[derive(Clone, Copy, Debug, PartialEq, Eq, PartialOrd, Ord)]
 pub struct Litres(pub u64);
 
+/// Litres are told as their number.
 impl fmt::Display for Litres {
     ghost output = { λ litres. Just (decimal litres.0) };
 

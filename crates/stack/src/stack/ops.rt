@@ -24,6 +24,7 @@ impl<'a, T: Copy> Stack<'a, T> {
     // Puts an item on top, or gives it back where the stack is full.
     pub fn push(&mut self, item: T) -> Result<(), T>
         ensures items { Pushed item self.old.room self.old.items result self.new.items }
+        ensures within { length self.old.items ≤ self.old.room }
         ensures room { self.new.room ≡ self.old.room }
     {
         if self.count == self.items.len() {
@@ -48,6 +49,7 @@ impl<'a, T: Copy> Stack<'a, T> {
     // The newest item, which stays.
     pub fn top(&self) -> Option<T>
         ensures answer { result ≡ newest self.now.items }
+        ensures within { length self.now.items ≤ self.now.room }
     {
         let items: &[T] = self.items;
         items[..self.count].last().copied()

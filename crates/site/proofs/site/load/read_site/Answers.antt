@@ -23,12 +23,13 @@ returns c =
     let file = c.args.file.now in
     let h = c.in_ok-table.ensures in
     let p = table_read file c.in_ok-table.table h in
-    let t = tree_in file in
+    let holds = dry_holds c.in_ok-table.table (tree_in file) p.1 (h.formed refl) (h.dry refl) in
     let a : accepts ≡ verdict (first_no (questions file)) tt = ap (λ (o : Option Refusal). verdict o tt) (sym p.0) in (
       a,
       answer_in_words (questions file) accepts tt a,
       record {
-        state = one_state (dry_holds c.in_ok-table.table t p.1 (h.formed refl) (h.dry refl));
+        state = one_state holds;
+        stands = holds.stands;
         dry = h.dry refl;
         spelled = h.spelled refl;
         only = only_tree file (h.formed refl) (h.dry refl) (h.spelled refl);
