@@ -32,6 +32,7 @@ impl<R: Raster> Shifted<R> {
         ensures { result
             ≡ (shifted_by self.now.dr self.now.dc (R.Raster.meaning self.now.below)).at row col }
     {
+        // Two `let else`: by `zip` and `map_or` a cell took longer to run.
         let Some(from_row) = shown_from(row, self.dr, self.below.rows()) else {
             return 0;
         };

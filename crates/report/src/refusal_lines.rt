@@ -17,6 +17,6 @@ impl fmt::Display for RefusalLines {
     fn fmt<W: fmt::Write>(&self, f: &mut fmt::Formatter<W>) -> fmt::Result {
         let refusal = self.0;
         let told = refusal.told();
-        write!(f, "{told}\n{refusal}\n")
+        writeln!(f, "{told}\n{refusal}")
     }
 }

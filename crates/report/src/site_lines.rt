@@ -20,15 +20,15 @@ impl fmt::Display for NodeLine<'_> {
     fn fmt<W: fmt::Write>(&self, f: &mut fmt::Formatter<W>) -> fmt::Result {
         let index = self.index;
         match self.node {
-            Node::Unused => write!(f, "{index} unused\n"),
-            Node::Basin { own, .. } => write!(f, "{index} basin {own}\n"),
-            Node::Outlet { .. } => write!(f, "{index} outlet\n"),
+            Node::Unused => writeln!(f, "{index} unused"),
+            Node::Basin { own, .. } => writeln!(f, "{index} basin {own}"),
+            Node::Outlet { .. } => writeln!(f, "{index} outlet"),
             Node::Merge {
                 own,
                 left,
                 right,
                 ..
-            } => write!(f, "{index} merge {own} landings {left} {right}\n"),
+            } => writeln!(f, "{index} merge {own} landings {left} {right}"),
         }
     }
 }
@@ -74,7 +74,7 @@ impl fmt::Display for SiteLines<'_> {
         } = *self;
         let count = nodes.len();
         let lines = NodeLines(nodes);
-        write!(f, "ok edition {edition} note {note} records {count}\n")?;
-        write!(f, "{lines}volume {volume} height {height}\n")
+        writeln!(f, "ok edition {edition} note {note} records {count}")?;
+        writeln!(f, "{lines}volume {volume} height {height}")
     }
 }

@@ -47,8 +47,8 @@ impl Loading<'_> {
     {
         let table = &self.table;
         let cut = usize::from(right.first);
-        let on_left = table.has_leaf(usize::from(said.left), usize::from(left.first), cut);
-        let on_right = table.has_leaf(usize::from(said.right), cut, table.count());
+        let on_left = table.has_leaf(usize::from(said.left), usize::from(left.first)..cut);
+        let on_right = table.has_leaf(usize::from(said.right), cut..table.count());
         on_left && on_right
     }
 
@@ -81,10 +81,12 @@ impl Loading<'_> {
             right: said.right,
         });
         // There is room: two have just been taken off.
-        let _ = self.waiting.push(Summary {
-            first: left.first,
-            outlets,
-        });
+        self.waiting
+            .push(Summary {
+                first: left.first,
+                outlets,
+            })
+            .unwrap();
         Ok(())
     }
 
@@ -100,7 +102,7 @@ impl Loading<'_> {
         let first = self.table.count() as u16;
         self.table.add(node);
         // There is room: fewer subtrees wait than there are records now.
-        let _ = self.waiting.push(Summary { first, outlets });
+        self.waiting.push(Summary { first, outlets }).unwrap();
         Ok(())
     }
 

@@ -32,10 +32,10 @@ fn join_heights(waiting: &mut Stack<'_, u16>)
         return;
     };
     let Some(left) = waiting.pop() else {
-        let _ = waiting.push(right);
+        waiting.push(right).unwrap();
         return;
     };
-    let _ = waiting.push(left.max(right).saturating_add(1));
+    waiting.push(left.max(right).saturating_add(1)).unwrap();
 }
 
 // One record more: a leaf is a subtree of height 0, a merge is one higher than the higher of its sides.
@@ -47,7 +47,7 @@ fn add_height(waiting: &mut Stack<'_, u16>, node: &Node)
     match node {
         Node::Unused => {}
         Node::Basin { .. } | Node::Outlet { .. } => {
-            let _ = waiting.push(0);
+            waiting.push(0).unwrap();
         }
         Node::Merge { .. } => join_heights(waiting),
     }

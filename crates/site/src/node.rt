@@ -9,6 +9,7 @@ ghost use Rattle.site.specs.Measures.{own_in};
 // A merge names its sides by numbers, and no `Box`: the tree lies in one table of fixed size, in the order of the file.
 #[derive(Clone, Copy, Debug, PartialEq, Eq)]
 pub enum Node {
+    // A case of its own, and no `Option` round the others: places and records are handed out as one slice.
     Unused,
     Basin {
         own: u64,

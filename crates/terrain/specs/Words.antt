@@ -30,3 +30,11 @@ numbers (n ∷ ns) = codes " " ++ (decimal n ++ numbers ns)
 -- The question in words, and each number found.
 abbrev pub question_text : Refusal → List ℕ
 question_text r = words_of r ++ codes " found" ++ numbers (case_of r).found
+
+-- A byte that stands for no kind of record, in words.
+abbrev pub unknown_kind_text : ℕ → List ℕ
+unknown_kind_text byte = decimal byte ++ codes " stands for no kind of record"
+
+-- A byte that is the digit of no edition, in words.
+abbrev pub unknown_edition_text : ℕ → List ℕ
+unknown_edition_text byte = decimal byte ++ codes " is the digit of no edition"

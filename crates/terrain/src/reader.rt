@@ -47,10 +47,8 @@ impl<'a> Reader<'a> {
         let file = self.file;
         let length = file.len();
         let mut look = Look::new(&mut self.place);
-        match look.last(file) {
-            Some(tail) => Trailer::read(tail, length),
-            None => Err(Refusal::TooShort { length }),
-        }
+        let tail = look.last(file).ok_or(Refusal::TooShort { length })?;
+        Trailer::read(tail, length)
     }
 
     /// The next `count` bytes, as that part of the file, if so many are left: the note, or a record.

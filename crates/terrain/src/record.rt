@@ -1,11 +1,14 @@
 // A record of a terrain file, read from its bytes.
-ghost use Rattle.std.specs.Prelude.{◌≡◌, ◌+◌, ◌^◌, ◌<◌, length};
+ghost use Rattle.std.specs.Prelude.{◌≡◌, ◌+◌, ◌^◌, ◌<◌, length, Some};
+ghost use Rattle.terrain.specs.Words.{unknown_kind_text};
 ghost use Rattle.questions.specs.Ask.{first_no, verdict};
 ghost use Rattle.terrain.specs.Format.{said_by};
 ghost use Rattle.terrain.specs.Record.{kind_in, record_of, record_questions, volume_fits};
 
 use crate::refusal::Refusal;
 use byte_order::Edition;
+use std::error::Error;
+use std::fmt;
 
 /// What a record stands for.
 #[derive(Clone, Copy, Debug, PartialEq, Eq)]
@@ -31,6 +34,17 @@ pub const VOLUME_LIMIT: u64 = 1 << 40;
 #[derive(Clone, Copy, Debug, PartialEq, Eq)]
 pub struct UnknownKind(pub u8);
 
+impl fmt::Display for UnknownKind {
+    ghost output = { λ unknown. Some (unknown_kind_text unknown.0) };
+
+    fn fmt<W: fmt::Write>(&self, f: &mut fmt::Formatter<W>) -> fmt::Result {
+        write!(f, "{} stands for no kind of record", self.0)
+    }
+}
+
+impl Error for UnknownKind {}
+
+/// Bytes 1, 2 and 3 stand for a kind.
 impl TryFrom<u8> for Kind {
     type Error = UnknownKind;
 
@@ -76,9 +90,7 @@ impl Record {
         if found != [0; 3] {
             return Err(Refusal::RecordZeros { found, at: at + 1 });
         }
-        let Some(own) = E::volume(rest) else {
-            unreachable!()
-        };
+        let own = E::volume(rest).unwrap();
         if !kind.has_volume(own) {
             return Err(Refusal::Volume {
                 volume: own,

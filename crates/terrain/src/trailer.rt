@@ -2,10 +2,12 @@
 ghost use Rattle.std.specs.Prelude.{◌≡◌, ◌≤◌, if◌then◌else◌, Some, None, decimal};
 ghost use Rattle.questions.specs.Ask.{first_no, verdict};
 ghost use Rattle.terrain.specs.Format.{said_by};
+ghost use Rattle.terrain.specs.Words.{unknown_edition_text};
 ghost use Rattle.terrain.specs.Trailer.{count_questions, edition_in, edition_number, name_by, signed, trailer_as, trailer_of, trailer_questions};
 
 use crate::refusal::Refusal;
 use byte_order::{ByteOrder, Edition, Edition1, Edition2};
+use std::error::Error;
 use std::fmt;
 
 /// How many bytes a trailer has.
@@ -28,6 +30,17 @@ pub enum EditionName {
 #[derive(Clone, Copy, Debug, PartialEq, Eq)]
 pub struct UnknownEdition(pub u8);
 
+impl fmt::Display for UnknownEdition {
+    ghost output = { λ unknown. Some (unknown_edition_text unknown.0) };
+
+    fn fmt<W: fmt::Write>(&self, f: &mut fmt::Formatter<W>) -> fmt::Result {
+        write!(f, "{} is the digit of no edition", self.0)
+    }
+}
+
+impl Error for UnknownEdition {}
+
+/// Each edition has its digit.
 impl TryFrom<u8> for EditionName {
     type Error = UnknownEdition;
 

@@ -14,3 +14,4 @@ pub mod State
 pub mod Code
 pub mod Calls
 pub mod Examples
+pub mod Words

@@ -22,7 +22,7 @@ impl Site {
         // By `as`: 64 bits have no `From` to `usize`, and `try_from` would add an error that cannot come.
         let place = leaf.0 as usize;
         let count = self.table.count();
-        if !self.table.has_leaf(place, 0, count) {
+        if !self.table.has_leaf(place, 0..count) {
             return Err(Refusal::NoLeaf { leaf });
         }
         Ok(place)

@@ -7,6 +7,7 @@ ghost use Rattle.site.specs.declared.node.Node.TheVariants.{Unused};
 
 use super::{PLACES, Table};
 use crate::node::Node;
+use std::ops::Range;
 
 impl Table {
     // A table with every place unused.
@@ -54,10 +55,10 @@ impl Table {
         &self.nodes[..self.count]
     }
 
-    // Is record k, of those from `from` up to before `to`, a leaf?
-    pub(crate) fn has_leaf(&self, k: usize, from: usize, to: usize) -> bool
-        ensures { result ≡ leaf_among self.now.nodes k from to }
+    // Is the record at a place, if that is among the places, a leaf?
+    pub(crate) fn has_leaf(&self, place: usize, places: Range<usize>) -> bool
+        ensures { result ≡ leaf_among self.now.nodes place places.start places.end }
     {
-        (from..to).contains(&k) && self.nodes.get(k).is_some_and(Node::is_leaf)
+        places.contains(&place) && self.nodes.get(place).is_some_and(Node::is_leaf)
     }
 }

@@ -30,7 +30,7 @@ impl Node {
                 *water += litres;
                 0
             }
-            // Two arms: a `&mut` that is one of two borrows, by the arm taken, gets no generated proof.
+            // Two arms, though alike: tried as one, where the `&mut` is one of two borrows, and the check makes no proof.
             Node::Basin { own, water } => fill_room(*own, water, litres),
             Node::Merge { own, water, .. } => fill_room(*own, water, litres),
         }
@@ -45,6 +45,7 @@ struct Sides {
     landing: usize,
 }
 
+// `cut`, `left` and `right` are fields of a case of `Node`, which has no struct of its own for them.
 // The side that has the leaf comes first; what it lets out goes to the merge's landing in the other.
 fn sides_from(leaf: usize, root: usize, cut: u16, left: u16, right: u16) -> Sides
     requires has_left { 0 < cut }
@@ -71,14 +72,14 @@ fn sides_from(leaf: usize, root: usize, cut: u16, left: u16, right: u16) -> Side
 
 impl Table {
     // Lends one record to the function that changes its water.
-    fn fill_record(&mut self, i: usize, litres: u64) -> u64
-        requires inside { i < 1023 }
-        requires litres_fit { drained (slice_index_or self.old.nodes i Unused) + litres < 2 ^ 64 }
-        ensures water { self.new.nodes ≡ slice_set self.old.nodes i (filled_node litres (slice_index_or self.old.nodes i Unused)) }
+    fn fill_record(&mut self, at: usize, litres: u64) -> u64
+        requires inside { at < 1023 }
+        requires litres_fit { drained (slice_index_or self.old.nodes at Unused) + litres < 2 ^ 64 }
+        ensures water { self.new.nodes ≡ slice_set self.old.nodes at (filled_node litres (slice_index_or self.old.nodes at Unused)) }
         ensures count { self.new.count ≡ self.old.count }
-        ensures rest { result ≡ over_node litres (slice_index_or self.old.nodes i Unused) }
+        ensures rest { result ≡ over_node litres (slice_index_or self.old.nodes at Unused) }
     {
-        self.nodes[i].fill_up(litres)
+        self.nodes[at].fill_up(litres)
     }
 
     // Pours litres at a leaf of the subtree below `root`, and answers what leaves the subtree: the side that has the
