@@ -1,5 +1,7 @@
 // The site that there is before any file is loaded.
 ghost use Rattle.std.specs.Prelude.{◌≡◌};
+ghost use Rattle.site.specs.Held.{Held};
+ghost use Rattle.site.specs.Shows.{shown};
 ghost use Rattle.water.specs.State.{untouched};
 ghost use Rattle.water.specs.Tree.{outlet};
 
@@ -11,8 +13,16 @@ impl Site {
     pub fn fresh() -> Site
         ensures { result ≡ untouched (outlet 0 0) }
     {
+        Site::dry(Table::lone_outlet())
+    }
+
+    // The site of a dry tree's table, to which no call has been made.
+    pub(crate) fn dry(table: Table) -> Site
+        requires { Held table 0 0 }
+        ensures { result ≡ shown table 0 0 }
+    {
         Site {
-            table: Table::lone_outlet(),
+            table,
             accepted: 0,
             pumped: 0,
         }

@@ -29,11 +29,7 @@ fn read_site(file: &[u8]) -> Result<Site, Refusal>
     ensures { SiteRead file.now result }
 {
     let table = read_table(file)?;
-    Ok(Site {
-        table,
-        accepted: 0,
-        pumped: 0,
-    })
+    Ok(Site::dry(table))
 }
 
 impl Site {

@@ -11,8 +11,8 @@ use Rattle.site.proofs.OneTree.{held, one_state}
 use Rattle.site.proofs.Sounds.{dry_holds}
 use Rattle.site.proofs.site.load.read_site.Goals as goal
 
-pub invariant_of-result : goal.invariant_of-result
-invariant_of-result c =
+pub dry-requires : goal.dry-requires
+dry-requires c =
     let h = c.in_ok-table.ensures in
     let p = table_read c.args.file.now c.in_ok-table.table h in
     let t = tree_in c.args.file.now in
@@ -28,7 +28,7 @@ returns c =
       a,
       answer_in_words (questions file) accepts tt a,
       record {
-        state = one_state holds;
+        state = c.dry.ensures ∙ one_state holds;
         stands = holds.stands;
         dry = h.dry refl;
         spelled = h.spelled refl;
