@@ -40,7 +40,8 @@ fn one_by_one<const N: usize>(field: [u8; N]) -> [u8; N]
     field
 }
 
-// The library has its functions for each type, so each width has an impl; only the order of bytes is generic over them.
+// An impl for each width, of one shape: the library has these functions for each type, and no macro of ours may write an
+// impl. What is above is generic over the widths.
 impl Number for u16 {
     type Bytes = [u8; 2];
 

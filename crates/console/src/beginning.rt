@@ -22,7 +22,7 @@ fn readable(file: &[u8]) -> &[u8]
 }
 
 /// Loads the site's file. A refusal is answered with the line that tells its number, and changes nothing.
-// An `Option` of that line, and no `Err`: one public call forms the bytes of each answer, and only memory fails it.
+// An `Option` of that line, and no `Err`: the contract states every byte that goes out, its end too.
 pub fn begin(heap: Global, site: &mut Site, file: &[u8]) -> Result<Option<String>, AllocError>
     ensures told { IfOk result (λ o. option_map string_bytes o ≡ begun (counted file.now)) }
     ensures loaded { first_no (questions (counted file.now)) ≡ Nothing → Loaded (counted file.now) site.new }

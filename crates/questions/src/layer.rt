@@ -20,7 +20,7 @@ pub enum Layer {
 }
 
 impl Layer {
-    /// The layer in small letters.
+    /// The layer in small letters, without asking for memory.
     pub fn name(self) -> &'static str
         ensures { result.now ≡ layer_name self }
     {

@@ -1,4 +1,5 @@
-// The text map of a raster: a line for each row, with single spaces between the cells.
+// The text map of a raster: a line for each row, with single spaces between the cells. Rows and columns are gone through
+// by their numbers, which a raster is asked by: it has no iterator.
 ghost use Rattle.std.specs.Prelude.{◌≡◌, IfOk, Some, string_bytes};
 ghost use Rattle.raster_text.specs.Map.{map_text, number_text, row_text};
 
@@ -33,7 +34,6 @@ impl<R: Raster> fmt::Display for Row<'_, R> {
 
     fn fmt<W: fmt::Write>(&self, f: &mut fmt::Formatter<W>) -> fmt::Result {
         let cols = self.raster.cols();
-        // By its number, which a raster is asked by: it has no iterator.
         for col in 0..cols {
             let number = Number(self.raster.cell(self.row, col));
             if col + 1 < cols {

@@ -1,6 +1,7 @@
 // The trailer of a terrain file, read from its last 12 bytes.
-ghost use Rattle.std.specs.Prelude.{◌≡◌, ◌≤◌, if◌then◌else◌, Some, None, decimal};
+ghost use Rattle.std.specs.Prelude.{◌≡◌, ◌≤◌, if◌then◌else◌, Some, Ok, Err, decimal};
 ghost use Rattle.questions.specs.Ask.{first_no, verdict};
+ghost use Rattle.terrain.specs.declared.refusal.Refusal.TheVariants.{Signature};
 ghost use Rattle.terrain.specs.Format.{said_by};
 ghost use Rattle.terrain.specs.Words.{unknown_edition_text};
 ghost use Rattle.terrain.specs.Trailer.{count_questions, edition_in, edition_number, name_by, signed, trailer_as, trailer_of, trailer_questions};
@@ -60,6 +61,7 @@ impl fmt::Display for EditionName {
     ghost output = { λ name. Some (decimal (edition_number name)) };
 
     fn fmt<W: fmt::Write>(&self, f: &mut fmt::Formatter<W>) -> fmt::Result {
+        // By `as`, which gives the number of a case.
         let number = *self as u8;
         write!(f, "{number}")
     }
@@ -73,15 +75,19 @@ pub struct Trailer {
     pub note: usize,
 }
 
-// The edition that the last four bytes name.
-fn edition_of(signature: [u8; 4]) -> Option<EditionName>
-    ensures { result ≡ (if signed signature then Some (name_by signature) else None) }
+// The edition that the last four bytes, from `at` on, name.
+fn edition_of(signature: [u8; 4], at: usize) -> Result<EditionName, Refusal>
+    ensures { result ≡ (if signed signature then Ok (name_by signature) else Err (Signature signature at)) }
 {
     let [f, t, digit, lf] = signature;
+    let refusal = Refusal::Signature {
+        found: signature,
+        at,
+    };
     if [f, t, lf] != [b'F', b'T', b'\n'] {
-        return None;
+        return Err(refusal);
     }
-    EditionName::try_from(digit).ok()
+    EditionName::try_from(digit).map_err(|_| refusal)
 }
 
 // Questions 4 to 6, by one text for every edition.
@@ -129,11 +135,7 @@ impl Trailer {
         ensures { result ≡ verdict (first_no (trailer_questions total tail.now)) (trailer_of total tail.now) }
     {
         let [.., six, seven, f, t, digit, lf] = *tail;
-        let signature = [f, t, digit, lf];
-        let edition = edition_of(signature).ok_or(Refusal::Signature {
-            found: signature,
-            at: total - 4,
-        })?;
+        let edition = edition_of([f, t, digit, lf], total - 4)?;
         let zeros = [six, seven];
         if zeros != [0; 2] {
             return Err(Refusal::TrailerZeros {
