@@ -1,7 +1,10 @@
 -- Which command a line spells, by its first bytes.
-use Rattle.std.proofs.Common.{◌≡◌, ℕ, List, ◌∷◌, Some, None, Option, refl, subst, arith}
+use Rattle.std.proofs.Common.{◌≡◌, ℕ, List, ◌∷◌, Some, None, Option, codes, ◌++◌, refl, subst, arith, rules}
+use Rattle.std.proofs.lemmas.Str.{IsUtf8-append, IsUtf8-from_ascii}
+use Rattle.std.specs.Str.{IsUtf8}
 use Rattle.console.specs.Grammar.{Reads, Spells, TwoNumerals}
 use Rattle.console.specs.Parts.{ReadsTwo}
+use Rattle.console.proofs.Values.{digits_are_text}
 use Rattle.console.specs.declared.command.Command.{Command}
 use Rattle.console.specs.declared.command.Command.TheVariants.{Rain, Level, Totals}
 
@@ -31,6 +34,24 @@ rain_read line rest m n e r = ((rest, r.0, e), only)
 
 pub rain_not_read : (line rest : List ℕ) → line ≡ 82 ∷ 32 ∷ rest → ReadsTwo rest None → Reads line None
 rain_not_read line rest e r d s = let u = only_rain line rest e d s in r u.0 u.1 u.2
+
+-- What a line spells a command by is text.
+spelt_is_text : (line : List ℕ) (d : Command) → Spells line d → IsUtf8 line
+spelt_is_text line (Rain leaf litres) (rest, two, e) =
+    let letter : IsUtf8 (codes "R ") = IsUtf8-from_ascii _ (search rules) in
+    let space : IsUtf8 (codes " ") = IsUtf8-from_ascii _ (search rules) in
+    let numbers = IsUtf8-append two.left (codes " " ++ two.right) (digits_are_text two.left two.first.digits) (IsUtf8-append (codes " ") two.right space (digits_are_text two.right two.second.digits)) in
+    rw e (IsUtf8-append (codes "R ") rest letter (rw two.parts numbers))
+spelt_is_text line (Level leaf) (rest, one, e) =
+    let letter : IsUtf8 (codes "L ") = IsUtf8-from_ascii _ (search rules) in
+    rw e (IsUtf8-append (codes "L ") rest letter (digits_are_text rest one.digits))
+spelt_is_text line Totals e =
+    let letter : IsUtf8 (codes "O") = IsUtf8-from_ascii _ (search rules) in
+    rw e letter
+
+-- What is no text spells nothing: each command is digits after ASCII.
+pub not_text_read : (line : List ℕ) → ¬ (IsUtf8 line) → Reads line None
+not_text_read line h d s = h (spelt_is_text line d s)
 
 -- A command that is read is a reading.
 pub is_read : (line : List ℕ) (c : Command) → Reads line (Some c) → (o : Option Command) × Reads line o

@@ -12,20 +12,21 @@ impl TryFrom<&[u8]> for Command {
     ghost try_from_gives = { λ line r. IsReading line.now r };
 
     fn try_from(line: &[u8]) -> Result<Command, Refusal> {
-        match line {
-            [b'O'] => Ok(Command::Totals),
-            [b'R', b' ', rest @ ..] => {
-                let (leaf, litres) = two_numbers(rest).ok_or(Refusal::NotWellFormed)?;
-                Ok(Command::Rain {
-                    leaf: Leaf(leaf),
-                    litres: Litres(litres),
-                })
-            }
-            [b'L', b' ', rest @ ..] => {
-                let leaf = number(rest).ok_or(Refusal::NotWellFormed)?;
-                Ok(Command::Level { leaf: Leaf(leaf) })
-            }
-            _ => Err(Refusal::NotWellFormed),
+        // What is no text spells no command, since a command is ASCII.
+        let text = str::from_utf8(line).map_err(|_| Refusal::NotWellFormed)?;
+        if let Some(rest) = text.strip_prefix("R ") {
+            let (leaf, litres) = two_numbers(rest).ok_or(Refusal::NotWellFormed)?;
+            Ok(Command::Rain {
+                leaf: Leaf(leaf),
+                litres: Litres(litres),
+            })
+        } else if let Some(rest) = text.strip_prefix("L ") {
+            let leaf = number(rest).ok_or(Refusal::NotWellFormed)?;
+            Ok(Command::Level { leaf: Leaf(leaf) })
+        } else if text == "O" {
+            Ok(Command::Totals)
+        } else {
+            Err(Refusal::NotWellFormed)
         }
     }
 }

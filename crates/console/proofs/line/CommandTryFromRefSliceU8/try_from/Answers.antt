@@ -1,18 +1,24 @@
-use Rattle.std.proofs.Common.{◌≡◌, ◌-◌, length, take, drop, Err, arith, refl}
+use Rattle.std.proofs.Common.{◌≡◌, ◌∷◌, Err, arith, refl}
 use Rattle.std.proofs.lemmas.Grind.{common_steps}
-use Rattle.console.proofs.Spelling.{rain_not_read, rain_read}
+use Rattle.std.specs.Str.{IsUtf8}
+use Rattle.console.proofs.Spelling.{not_text_read, rain_not_read, rain_read}
 use Rattle.console.specs.declared.refusal.Refusal.TheVariants.{NotWellFormed}
 use Rattle.console.proofs.line.CommandTryFromRefSliceU8.try_from.Goals as goal
 
-pub returns-in_err-leaf-in-82 : goal.returns-in_err-leaf-in-82
-returns-in_err-leaf-in-82 c =
-    let line = c.args.line.now in
-    let none = rw c.in_err-leaf-in-82.ensures.ok_part at c.two_numbers.ensures in
+pub returns-in_err-text : goal.returns-in_err-text
+returns-in_err-text c =
     let refused : c.from_residual.result ≡ Err NotWellFormed = grind (arith, common_steps) in
-    rw refused
-    (rain_not_read line (take (length line - 2) (drop 2 line)) (grind (arith, common_steps)) none, refl)
+    let no_text : ¬ (IsUtf8 c.args.line.now) = grind (arith, common_steps) in
+    rw refused (not_text_read c.args.line.now no_text, refl)
 
-pub returns-in_ok-leaf-in-82 : goal.returns-in_ok-leaf-in-82
-returns-in_ok-leaf-in-82 c =
-    let line = c.args.line.now in
-    rain_read line (take (length line - 2) (drop 2 line)) _ _ (grind (arith, common_steps)) (rw c.in_ok-leaf-in-82.ensures.ok_part at c.two_numbers.ensures)
+pub returns-in_err-leaf : goal.returns-in_err-leaf
+returns-in_err-leaf c =
+    let none = rw c.in_err-leaf.ensures.ok_part at c.two_numbers.ensures in
+    let refused : c.from_residual-in_err-leaf.result ≡ Err NotWellFormed = grind (arith, common_steps) in
+    let after : c.args.line.now ≡ 82 ∷ 32 ∷ c.in-Some.rest.now = grind (arith, common_steps) in
+    rw refused (rain_not_read _ _ after none, refl)
+
+pub returns-in_ok-leaf : goal.returns-in_ok-leaf
+returns-in_ok-leaf c =
+    let after : c.args.line.now ≡ 82 ∷ 32 ∷ c.in-Some.rest.now = grind (arith, common_steps) in
+    rain_read _ _ _ _ after (rw c.in_ok-leaf.ensures.ok_part at c.two_numbers.ensures)
