@@ -1,18 +1,9 @@
 -- What the steps of reading a line answer.
-use Rattle.std.specs.Prelude.{◌≡◌, ℕ, ◌<◌, List, length, Some, None, Ok, Err, Option, Result, ◌≢◌, slice_index}
+use Rattle.std.specs.Prelude.{◌≡◌, ℕ, List, Some, None, Ok, Err, Option, Result}
 use Rattle.console.specs.Grammar.{Numeral, Reads, TwoNumerals}
 use Rattle.console.specs.declared.command.Command.{Command}
 use Rattle.console.specs.declared.refusal.Refusal.{Refusal}
 use Rattle.console.specs.declared.refusal.Refusal.TheVariants.{NotWellFormed}
-
--- No space (32) stands before a place.
-abbrev pub NoSpace : List ℕ → ℕ → Type 0
-NoSpace bs n = (k : ℕ) → k < n → slice_index bs k ≢ 32
-
--- The place of the first space, if there is one.
-abbrev pub FirstSpace : List ℕ → Option ℕ → Type 0
-FirstSpace bs None = NoSpace bs (length bs)
-FirstSpace bs (Some i) = (i < length bs) × (slice_index bs i ≡ 32) × NoSpace bs i
 
 -- The number that the bytes write, if they write one.
 abbrev pub ReadsNumber : List ℕ → Option ℕ → Type 0
