@@ -1,5 +1,5 @@
-use Rattle.std.proofs.Common.{Err, Option, length, sym, ap, ◌∙◌}
-use Rattle.std.proofs.lemmas.Result.{err_from_is_err_and}
+use Rattle.std.proofs.Common.{Option, length, sym, ap, ◌∙◌}
+use Rattle.questions.proofs.Asked.{refused_with}
 use Rattle.questions.specs.Ask.{verdict}
 use Rattle.terrain.specs.Trailer.{tail_of, trailer_of}
 use Rattle.terrain.specs.declared.refusal.Refusal.{Refusal}
@@ -11,7 +11,6 @@ use Rattle.report.proofs.describe.loaded.Goals as goal
 pub returns-in_err-trailer : goal.returns-in_err-trailer
 returns-in_err-trailer c =
     let file = c.args.file.now in
-    let p = err_from_is_err_and c.from_residual.result c.from_residual.ensures.1 in
     let q = trailer_refuses c.new.result.file.now file c.in_err-trailer.field-0.0 c.new.ensures.file c.in_err-trailer.ensures.answer in
-    p.1 ∙ ap Err p.2
+    refused_with c.from_residual.result c.from_residual.ensures.1
     ∙ ap (λ (o : Option Refusal). verdict o (trailer_of (length file) (tail_of file), untouched (tree_in file))) (sym q)

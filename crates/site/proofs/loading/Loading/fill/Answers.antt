@@ -1,5 +1,5 @@
-use Rattle.std.proofs.Common.{List, ℕ, Err, sym, ap, ◌∙◌, subst, arith}
-use Rattle.std.proofs.lemmas.Result.{err_from_is_err_and}
+use Rattle.std.proofs.Common.{List, ℕ, sym, ap, ◌∙◌, subst, arith}
+use Rattle.questions.proofs.Asked.{refused_with}
 use Rattle.questions.specs.Ask.{first_no}
 use Rattle.terrain.specs.Format.{Format, format}
 use Rattle.site.specs.Fill.{Fits}
@@ -18,8 +18,7 @@ pub returns-in_err-take_record-clause-done : goal.returns-in_err-take_record-cla
 returns-in_err-take_record-clause-done g c =
     let e : Format = format g.E.Edition.DIGIT g.E.Edition.RECORD_LEN g.E.ByteOrder.number in
     let so_far = c.loop-i.invariant in
-    let p = err_from_is_err_and c.from_residual.result c.from_residual.ensures.1 in
     let stopped = c.in_err-take_record.ensures.done in
-    filled_err e c.args.count c.args.reader.now.file.now _ _ _ c.in_err-take_record.field-0.0 (p.1 ∙ ap Err p.2)
+    filled_err e c.args.count c.args.reader.now.file.now _ _ _ c.in_err-take_record.field-0.0 (refused_with c.from_residual.result c.from_residual.ensures.1)
     (λ n h.
     ap (λ (f : List ℕ). first_no (questions_from e f n 0)) (sym (ap (λ x. x.now) so_far.2)) ∙ stopped n (omega (arith, so_far.1)))
