@@ -1,11 +1,11 @@
-use Rattle.std.proofs.Common.{length, ℕ, List, ap, ◌∙◌}
+use Rattle.std.proofs.Common.{length, ℕ, List, sym, ap, ◌∙◌}
+use Rattle.std.proofs.lemmas.Option.{cond_some}
 use Rattle.questions.specs.Ask.{first_no, verdict}
 use Rattle.terrain.specs.Trailer.{trailer_of, trailer_questions}
-use Rattle.terrain.proofs.Stepping.{let_through}
 use Rattle.terrain.proofs.reader.Reader.trailer.Goals as goal
 
 pub returns-in-Some-clause-answer : goal.returns-in-Some-clause-answer
 returns-in-Some-clause-answer c =
     let n = length c.args.self.now.file.now in
-    let t = let_through _ _ _ c.in-Some.ensures.bytes in
-    c.read.ensures ∙ ap (λ (s : List ℕ). verdict (first_no (trailer_questions n s)) (trailer_of n s)) t.1
+    let t = cond_some _ _ _ (sym c.in-Some.ensures.bytes) in
+    c.read.ensures ∙ ap (λ (s : List ℕ). verdict (first_no (trailer_questions n s)) (trailer_of n s)) (sym t.1)
