@@ -68,6 +68,6 @@ pub answer_in_words : {R A : Type 0} (qs : List (Question R)) (r : Result A R) (
 answer_in_words qs r a h = subst (FirstNo qs) (sym (ap refusal_in h ∙ refusal_in_lem (first_no qs) a)) (first_no_lem qs)
 
 -- What a `?` hands on is the refusal that it met.
-pub refused_with : {A R : Type 0} (r : Result A R) {x : R} → IsErrAnd r (λ y. y ≡ x) → r ≡ Err x
-refused_with (Ok a) h = absurd h
-refused_with (Err y) h = ap Err h
+pub refused_with : {A R : Type 0} {r : Result A R} {x : R} → IsErrAnd r (λ y. y ≡ x) → r ≡ Err x
+refused_with {r = Ok a} h = absurd h
+refused_with {r = Err y} h = ap Err h

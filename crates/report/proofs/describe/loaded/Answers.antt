@@ -12,5 +12,5 @@ pub returns-in_err-trailer : goal.returns-in_err-trailer
 returns-in_err-trailer c =
     let file = c.args.file.now in
     let q = trailer_refuses c.new.result.file.now file c.in_err-trailer.field-0.0 c.new.ensures.file c.in_err-trailer.ensures.answer in
-    refused_with c.from_residual.result c.from_residual.ensures.1
+    refused_with c.from_residual.ensures.1
     ∙ ap (λ (o : Option Refusal). verdict o (trailer_of (length file) (tail_of file), untouched (tree_in file))) (sym q)

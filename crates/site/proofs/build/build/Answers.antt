@@ -8,7 +8,7 @@ returns-in_err-one_tree g c =
     let filled = c.in_ok-fill.ensures in
     ended_err _ _ _ _ _ _ filled.done.0 filled.done.1
     (ap (λ x. x.now) (filled.file ∙ c.bytes.ensures.file)) c.requires.close _ _
-    (refused_with c.from_residual-in_err-one_tree.result c.from_residual-in_err-one_tree.ensures.1) c.in_err-one_tree.ensures
+    (refused_with c.from_residual-in_err-one_tree.ensures.1) c.in_err-one_tree.ensures
 
 pub returns : goal.returns
 returns g c =

@@ -11,5 +11,5 @@ take_record-requires-clause-more g c =
 
 pub returns-in_err-take_record-clause-done : goal.returns-in_err-take_record-clause-done
 returns-in_err-take_record-clause-done g c =
-    filled_err _ _ _ _ _ _ _ (refused_with c.from_residual.result c.from_residual.ensures.1)
+    filled_err _ _ _ _ _ _ _ (refused_with c.from_residual.ensures.1)
     (λ n h. let stopped = c.in_err-take_record.ensures.done n (omega (arith, c.loop-i.invariant.1)) in cc)

@@ -15,7 +15,7 @@ returns-in_err-place-clause-first_no c =
     let a = c.args.leaf in
     let s = c.args.self.now in
     answer_in_words (level_questions a s) _ (litres (level a.0 s.tree))
-    (level_no_leaf a s c.in_err-place.field-0.0 c.from_residual.result c.in_err-place.ensures (refused_with c.from_residual.result c.from_residual.ensures.1))
+    (level_no_leaf a s c.in_err-place.field-0.0 c.from_residual.result c.in_err-place.ensures (refused_with c.from_residual.ensures.1))
 
 pub survey-seen-requires-clause-rooted : goal.survey-seen-requires-clause-rooted
 survey-seen-requires-clause-rooted c =

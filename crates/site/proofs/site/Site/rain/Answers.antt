@@ -14,7 +14,7 @@ returns-in_err-at-clause-first_no c =
     let v = c.args.litres in
     let s = c.args.self.now in
     answer_in_words (rain_questions a v s) _ tt
-    (rain_no_leaf a v s c.in_err-at.field-0.0 c.from_residual.result c.in_err-at.ensures (refused_with c.from_residual.result c.from_residual.ensures.1))
+    (rain_no_leaf a v s c.in_err-at.field-0.0 c.from_residual.result c.in_err-at.ensures (refused_with c.from_residual.ensures.1))
 
 pub returns-in_err-accepted-clause-first_no : goal.returns-in_err-accepted-clause-first_no
 returns-in_err-accepted-clause-first_no c =
@@ -24,7 +24,7 @@ returns-in_err-accepted-clause-first_no c =
     let h = held_is c.self.invariant c.self.view_is in
     answer_in_words (rain_questions a v s) _ tt
     (rain_past_limit a v s c.in_ok-at.at c.self.inside.accepted c.in_ok-at.ensures h.accepted
-    c.in_err-accepted.field-0.0 c.from_residual-in_err-accepted.result c.in_err-accepted.ensures (refused_with c.from_residual-in_err-accepted.result c.from_residual-in_err-accepted.ensures.1))
+    c.in_err-accepted.field-0.0 c.from_residual-in_err-accepted.result c.in_err-accepted.ensures (refused_with c.from_residual-in_err-accepted.ensures.1))
 
 pub pour-requires-clause-rooted : goal.pour-requires-clause-rooted
 pour-requires-clause-rooted c =

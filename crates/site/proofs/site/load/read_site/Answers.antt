@@ -41,4 +41,4 @@ returns-in_err-table c =
     let x = c.in_err-table.field-0.0 in
     let q = table_refused file x c.in_err-table.ensures in
     let a : refuses x ≡ verdict (first_no (questions file)) tt = ap (λ (o : Option Refusal). verdict o tt) (sym q) in
-    subst (SiteRead file) (sym (refused_with c.from_residual.result c.from_residual.ensures.1)) (a, answer_in_words (questions file) (refuses x) tt a)
+    subst (SiteRead file) (sym (refused_with c.from_residual.ensures.1)) (a, answer_in_words (questions file) (refuses x) tt a)

@@ -11,7 +11,7 @@ returns-in_err-trailer c =
     let new = c.new-reader.result.file.now in
     let x = c.in_err-trailer.field-0.0 in
     let q = verdict_err (first_no (trailer_questions (length new) (tail_of new))) x (trailer_of (length new) (tail_of new)) c.in_err-trailer.ensures.answer in
-    trailer_refused c.args.file.now c.from_residual.result x (refused_with c.from_residual.result c.from_residual.ensures.1)
+    trailer_refused c.args.file.now c.from_residual.result x (refused_with c.from_residual.ensures.1)
     (ap (λ (f : List ℕ). first_no (trailer_questions (length f) (tail_of f))) (sym c.new-reader.ensures.file) ∙ q)
 
 pub returns-in-First : goal.returns-in-First
