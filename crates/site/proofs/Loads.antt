@@ -1,5 +1,5 @@
 -- From the trailer to the whole file.
-use Rattle.std.proofs.Common.{◌≡◌, ℕ, List, length, Some, None, Ok, Err, Option, Result, sym, ap, ◌∙◌, subst}
+use Rattle.std.proofs.Common.{◌≡◌, ℕ, List, length, Some, None, Ok, Err, Result, sym, ap, ◌∙◌, subst}
 use Rattle.questions.specs.Ask.{first_no, verdict}
 use Rattle.terrain.specs.Trailer.{count_of, format_of, name_of, tail_of, trailer_of, trailer_questions}
 use Rattle.terrain.specs.declared.reader.Reader.{Reader}
@@ -30,7 +30,7 @@ whole_file name n file r ne ce h s =
     let q : first_no (questions file) ≡ first_no (questions_from (format_in file) file (count_in file) 0) =
     all_passed (trailer_questions (length file) (tail_of file)) (questions_from (format_in file) file (count_in file) 0) h in
     record {
-      answer = s₂.answer ∙ ap (λ (o : Option Refusal). verdict o (tabled (tree_in file))) (sym q);
+      answer = cc (s₂.answer);
       formed = s₂.formed;
       dry = s₂.dry;
       spelled = s₂.spelled;
@@ -43,7 +43,7 @@ trailer_refused file r x re h =
     let q : first_no (questions file) ≡ Some x =
     some_stopped (trailer_questions (length file) (tail_of file)) (questions_from (format_in file) file (count_in file) 0) x h in
     record {
-      answer = re ∙ ap (λ (o : Option Refusal). verdict o (tabled (tree_in file))) (sym q);
+      answer = cc;
       formed = λ k. absurd (no_ok r x re k);
       dry = λ k. absurd (no_ok r x re k);
       spelled = λ k. absurd (no_ok r x re k);

@@ -1,7 +1,7 @@
 use Rattle.std.proofs.Common.{sym, ap, subst, arith}
 use Rattle.questions.proofs.Asked.{refused_with}
-use Rattle.site.specs.Fill.{Fits}
-use Rattle.site.proofs.Taken.{filled_err, more_left}
+use Rattle.site.specs.Fill.{Filled, Fits}
+use Rattle.site.proofs.Taken.{more_left}
 use Rattle.site.proofs.loading.Loading.fill.Goals as goal
 
 pub take_record-requires-clause-more : goal.take_record-requires-clause-more
@@ -11,5 +11,5 @@ take_record-requires-clause-more g c =
 
 pub returns-in_err-take_record-clause-done : goal.returns-in_err-take_record-clause-done
 returns-in_err-take_record-clause-done g c =
-    filled_err _ _ _ _ _ _ _ (refused_with c.from_residual.ensures.1)
+    subst (Filled _ _ _ _ _) (sym (refused_with c.from_residual.ensures.1))
     (λ n h. let stopped = c.in_err-take_record.ensures.done n (omega (arith, c.loop-i.invariant.1)) in cc)

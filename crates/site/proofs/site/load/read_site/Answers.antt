@@ -1,6 +1,5 @@
-use Rattle.std.proofs.Common.{◌≡◌, Option, sym, refl, ap, subst}
+use Rattle.std.proofs.Common.{◌≡◌, sym, refl, subst}
 use Rattle.questions.specs.Ask.{first_no, verdict}
-use Rattle.terrain.specs.declared.refusal.Refusal.{Refusal}
 use Rattle.site.specs.Loaded.{SiteRead, accepts, refuses}
 use Rattle.site.specs.Questions.{questions}
 use Rattle.site.specs.Spell.{tree_in}
@@ -23,7 +22,7 @@ returns c =
     let h = c.in_ok-table.ensures in
     let p = table_read file c.in_ok-table.table h in
     let holds = dry_holds c.in_ok-table.table (tree_in file) p.1 (h.formed refl) (h.dry refl) in
-    let a : accepts ≡ verdict (first_no (questions file)) tt = ap (λ (o : Option Refusal). verdict o tt) (sym p.0) in (
+    let a : accepts ≡ verdict (first_no (questions file)) tt = cc (p.0) in (
       a,
       answer_in_words (questions file) accepts tt a,
       record {
@@ -40,5 +39,5 @@ returns-in_err-table c =
     let file = c.args.file.now in
     let x = c.in_err-table.field-0.0 in
     let q = table_refused file x c.in_err-table.ensures in
-    let a : refuses x ≡ verdict (first_no (questions file)) tt = ap (λ (o : Option Refusal). verdict o tt) (sym q) in
+    let a : refuses x ≡ verdict (first_no (questions file)) tt = cc in
     subst (SiteRead file) (sym (refused_with c.from_residual.ensures.1)) (a, answer_in_words (questions file) (refuses x) tt a)
