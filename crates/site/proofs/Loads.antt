@@ -6,7 +6,7 @@ use Rattle.terrain.specs.declared.reader.Reader.{Reader}
 use Rattle.terrain.specs.declared.refusal.Refusal.{Refusal}
 use Rattle.terrain.specs.declared.trailer.EditionName.{EditionName}
 use Rattle.terrain.specs.declared.trailer.Trailer.{Trailer}
-use Rattle.questions.proofs.Asked.{all_passed, some_stopped}
+use Rattle.questions.proofs.Asked.{all_passed, some_stopped, verdict_err, verdict_ok}
 use Rattle.water.specs.Formed.{Formed}
 use Rattle.water.specs.Tree.{dried}
 use Rattle.site.specs.Fill.{Spelled}
@@ -18,7 +18,6 @@ use Rattle.site.specs.Spell.{count_in, format_in, tree_in}
 use Rattle.site.specs.declared.table.Table.{Table}
 use Rattle.site.proofs.Ended.{no_ok, same_file}
 use Rattle.site.proofs.Listed.{one_postorder}
-use Rattle.questions.proofs.Asked.{verdict_err, verdict_ok}
 
 -- The trailer passes, and the records give what they give.
 pub whole_file : (name : EditionName) (n : ℕ) (file : List ℕ) (r : Result Table Refusal) → name_of (tail_of file) ≡ name → n ≡ count_of (format_of name) (tail_of file) →
