@@ -1,5 +1,5 @@
 -- Steps through a list of questions.
-use Rattle.std.proofs.Common.{◌≡◌, ℕ, Bool, true, false, cond, List, [], ◌∷◌, ◌++◌, Some, None, Ok, Err, Option, Result, sym, refl, ap, ◌∙◌, subst, arith}
+use Rattle.std.proofs.Common.{◌≡◌, Bool, true, false, cond, List, [], ◌∷◌, ◌++◌, Some, None, Ok, Err, IsErrAnd, Option, Result, sym, refl, ap, ◌∙◌, subst}
 use Rattle.std.proofs.lemmas.Bool.{cond-true, cond-false}
 use Rattle.questions.specs.Ask.{Question, AllYes, FirstNo, ask, first_no, refusal_in, verdict}
 
@@ -19,11 +19,11 @@ all_passed {R} (q ∷ qs) ys e = go q.yes (all_passed qs ys) e
     go : (b : Bool) → (first_no qs ≡ None → first_no (qs ++ ys) ≡ first_no ys) →
         cond b (first_no qs) (Some q.refusal) ≡ None → cond b (first_no (qs ++ ys)) (Some q.refusal) ≡ first_no ys
     go true ih h = ih h
-    go false ih h = let z : ◌≡◌ {A = ℕ} 0 1 = cc in absurd (omega arith)
+    go false ih h = cc
 
 -- A no among them is the answer, whatever comes after.
 pub some_stopped : {R : Type 0} (xs ys : List (Question R)) (r : R) → first_no xs ≡ Some r → first_no (xs ++ ys) ≡ Some r
-some_stopped [] ys r e = let z : ◌≡◌ {A = ℕ} 0 1 = cc in absurd (omega arith)
+some_stopped [] ys r e = cc
 some_stopped {R} (q ∷ qs) ys r e = go q.yes (some_stopped qs ys r) e
   where
     go : (b : Bool) → (first_no qs ≡ Some r → first_no (qs ++ ys) ≡ Some r) →
@@ -38,7 +38,7 @@ all_yes {R} (q ∷ qs) e = go q.yes (all_yes qs) e
   where
     go : (b : Bool) → (first_no qs ≡ None → AllYes qs) → cond b (first_no qs) (Some q.refusal) ≡ None → (b ≡ true) × AllYes qs
     go true ih h = (refl, ih h)
-    go false ih h = let z : ◌≡◌ {A = ℕ} 0 1 = cc in absurd (omega arith)
+    go false ih h = cc
 
 -- The first question answered no, in words.
 pub first_no_lem : {R : Type 0} (qs : List (Question R)) → FirstNo qs (first_no qs)
@@ -53,10 +53,10 @@ first_no_lem {R} (q ∷ qs) = go q.yes refl (first_no qs) (first_no_lem qs)
 -- What a verdict tells of the questions.
 pub verdict_ok : {R A : Type 0} (o : Option R) (a b : A) → Ok a ≡ verdict o b → (o ≡ None) × (a ≡ b)
 verdict_ok None a b e = (refl, cc)
-verdict_ok (Some r) a b e = let z : ◌≡◌ {A = ℕ} 0 1 = cc in absurd (omega arith)
+verdict_ok (Some r) a b e = cc
 
 pub verdict_err : {R A : Type 0} (o : Option R) (x : R) (b : A) → Err x ≡ verdict o b → o ≡ Some x
-verdict_err None x b e = let z : ◌≡◌ {A = ℕ} 0 1 = cc in absurd (omega arith)
+verdict_err None x b e = cc
 verdict_err (Some r) x b e = cc
 
 refusal_in_lem : {R A : Type 0} (o : Option R) (a : A) → refusal_in (verdict o a) ≡ o
@@ -66,3 +66,8 @@ refusal_in_lem (Some r) a = refl
 -- The answer is the first question answered no, in words.
 pub answer_in_words : {R A : Type 0} (qs : List (Question R)) (r : Result A R) (a : A) → r ≡ verdict (first_no qs) a → FirstNo qs (refusal_in r)
 answer_in_words qs r a h = subst (FirstNo qs) (sym (ap refusal_in h ∙ refusal_in_lem (first_no qs) a)) (first_no_lem qs)
+
+-- What a `?` hands on is the refusal that it met.
+pub refused_with : {A R : Type 0} {r : Result A R} {x : R} → IsErrAnd r (λ y. y ≡ x) → r ≡ Err x
+refused_with {r = Ok a} h = absurd h
+refused_with {r = Err y} h = ap Err h

@@ -1,15 +1,15 @@
 -- What a site's invariant tells of its table.
-use Rattle.std.proofs.Common.{◌≡◌, ℕ, ◌-◌, ◌^◌, ◌<◌, ◌≤◌, List, length, get_or, take, replicate, sym, ap, ◌∙◌, subst, arith}
+use Rattle.std.proofs.Common.{◌≡◌, ℕ, ◌-◌, ◌^◌, ◌<◌, ◌≤◌, List, take, replicate, ap, ◌∙◌, arith}
 use Rattle.std.proofs.lemmas.List.{take_at}
 use Rattle.water.specs.Tree.{Tree, size}
 use Rattle.water.specs.State.{State}
 use Rattle.site.specs.Held.{Holds, tabled}
-use Rattle.site.specs.Measures.{drained_sum, own_in, own_sum}
+use Rattle.site.specs.Measures.{drained_sum, own_sum}
 use Rattle.site.specs.Records.{records}
 use Rattle.site.specs.declared.node.Node.{Node}
 use Rattle.site.specs.declared.node.Node.TheVariants.{Unused}
 use Rattle.site.specs.declared.table.Table.{Table}
-use Rattle.site.proofs.Measured.{outflow_few, outflow_is_lem, records_small, volumes_fit}
+use Rattle.site.proofs.Measured.{outflow_few, outflow_is_lem, volume_few, volume_is}
 use Rattle.site.proofs.Trees.{length_records, size_pos}
 
 -- The used part of a tree's table is its records.
@@ -33,13 +33,9 @@ module _ {table : Table} {a p : ℕ} {s : State} (h : Holds table a p s) where
     pub used : xs ≡ records s.tree
     used = e ∙ used_is table s.tree h.tree
 
-    used_small : (k : ℕ) → own_in (get_or xs k Unused) < 2 ^ 40
-    used_small k =
-        subst (λ (l : List Node). own_in (get_or l k Unused) < 2 ^ 40) (sym used) (records_small s.tree h.stands.sound.formed.shaped k)
-
     pub used_own : own_sum xs < 2 ^ 64
     used_own =
-        volumes_fit xs (omega (arith, ap length used, length_records s.tree, h.stands.sound.formed.few)) used_small
+        omega (arith, ap own_sum used, volume_is s.tree, volume_few s.tree h.stands.sound.formed.shaped, h.stands.sound.formed.few)
 
     pub used_drained : drained_sum xs < 2 ^ 64
     used_drained =

@@ -1,12 +1,12 @@
 -- From the trailer to the whole file.
-use Rattle.std.proofs.Common.{◌≡◌, ℕ, List, length, Some, None, Ok, Err, Option, Result, sym, ap, ◌∙◌, subst}
+use Rattle.std.proofs.Common.{◌≡◌, ℕ, List, length, Some, None, Ok, Err, Result, sym, ap, ◌∙◌, subst}
 use Rattle.questions.specs.Ask.{first_no, verdict}
 use Rattle.terrain.specs.Trailer.{count_of, format_of, name_of, tail_of, trailer_of, trailer_questions}
 use Rattle.terrain.specs.declared.reader.Reader.{Reader}
 use Rattle.terrain.specs.declared.refusal.Refusal.{Refusal}
 use Rattle.terrain.specs.declared.trailer.EditionName.{EditionName}
 use Rattle.terrain.specs.declared.trailer.Trailer.{Trailer}
-use Rattle.questions.proofs.Asked.{all_passed, some_stopped}
+use Rattle.questions.proofs.Asked.{all_passed, some_stopped, verdict_err, verdict_ok}
 use Rattle.water.specs.Formed.{Formed}
 use Rattle.water.specs.Tree.{dried}
 use Rattle.site.specs.Fill.{Spelled}
@@ -18,7 +18,6 @@ use Rattle.site.specs.Spell.{count_in, format_in, tree_in}
 use Rattle.site.specs.declared.table.Table.{Table}
 use Rattle.site.proofs.Ended.{no_ok, same_file}
 use Rattle.site.proofs.Listed.{one_postorder}
-use Rattle.questions.proofs.Asked.{verdict_err, verdict_ok}
 
 -- The trailer passes, and the records give what they give.
 pub whole_file : (name : EditionName) (n : ℕ) (file : List ℕ) (r : Result Table Refusal) → name_of (tail_of file) ≡ name → n ≡ count_of (format_of name) (tail_of file) →
@@ -30,7 +29,7 @@ whole_file name n file r ne ce h s =
     let q : first_no (questions file) ≡ first_no (questions_from (format_in file) file (count_in file) 0) =
     all_passed (trailer_questions (length file) (tail_of file)) (questions_from (format_in file) file (count_in file) 0) h in
     record {
-      answer = s₂.answer ∙ ap (λ (o : Option Refusal). verdict o (tabled (tree_in file))) (sym q);
+      answer = cc (s₂.answer);
       formed = s₂.formed;
       dry = s₂.dry;
       spelled = s₂.spelled;
@@ -43,7 +42,7 @@ trailer_refused file r x re h =
     let q : first_no (questions file) ≡ Some x =
     some_stopped (trailer_questions (length file) (tail_of file)) (questions_from (format_in file) file (count_in file) 0) x h in
     record {
-      answer = re ∙ ap (λ (o : Option Refusal). verdict o (tabled (tree_in file))) (sym q);
+      answer = cc;
       formed = λ k. absurd (no_ok r x re k);
       dry = λ k. absurd (no_ok r x re k);
       spelled = λ k. absurd (no_ok r x re k);

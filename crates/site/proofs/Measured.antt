@@ -1,9 +1,6 @@
 -- Sums and heights of the records of a tree.
-use Rattle.std.proofs.Common.{◌≡◌, ℕ, zero, suc, ◌+◌, ◌-◌, ◌^◌, ◌<◌, ◌≤◌, min, max, List, [], ◌∷◌, ◌++◌, length, get_or, sum_by, sym, refl, subst, ⊎_elim, mul-le-mul_right, arith}
-use Rattle.std.proofs.lemmas.List.{get_or_append_left, get_or-append_right}
-use Rattle.std.proofs.lemmas.Bool.{cases_lt}
-use Rattle.std.proofs.lemmas.List.Sums.{sum_by-append, sum_by-le}
-use Rattle.std.proofs.lemmas.List.Elements.{All-from_get_or}
+use Rattle.std.proofs.Common.{◌≡◌, ℕ, ◌+◌, ◌*◌, ◌^◌, ◌<◌, ◌≤◌, min, max, List, [], ◌∷◌, ◌++◌, sum_by, refl, arith}
+use Rattle.std.proofs.lemmas.List.Sums.{sum_by-append}
 use Rattle.water.specs.Tree.{Tree, basin, outlet, merge, size, volume, height}
 use Rattle.water.specs.Formed.{Shaped}
 use Rattle.water.specs.Water.{held, outflow}
@@ -11,7 +8,7 @@ use Rattle.site.specs.Filling.{drained}
 use Rattle.site.specs.Measures.{own_in, own_sum, drained_sum, heights_after, heights}
 use Rattle.site.specs.Records.{records}
 use Rattle.site.specs.declared.node.Node.{Node}
-use Rattle.site.specs.declared.node.Node.TheVariants.{Unused, Basin, Outlet, Merge}
+use Rattle.site.specs.declared.node.Node.TheVariants.{Merge}
 
 -- The sum over the records of a merge: those of both sides, and its own.
 merge_sum : (f : Node → ℕ) (x : Node) (l r : Tree) →
@@ -32,6 +29,12 @@ pub outflow_is_lem : (t : Tree) → drained_sum (records t) ≡ outflow t
 outflow_is_lem (basin n o w) = omega arith
 outflow_is_lem (outlet n w) = omega arith
 outflow_is_lem (merge n o w c a b l r) = omega (arith, outflow_is_lem l, outflow_is_lem r, merge_sum drained (Merge o w c a b) l r)
+
+-- A tree that is shaped as a site's has at most 2^40 litres of volume a record.
+pub volume_few : (t : Tree) → Shaped t → volume t ≤ size t * 2 ^ 40
+volume_few (basin n o w) h = omega arith
+volume_few (outlet n w) h = omega arith
+volume_few (merge n o w c a b l r) h = omega (arith, volume_few l h.0, volume_few r h.1, h.2)
 
 pub outflow_few : (t : Tree) → outflow t ≤ held t
 outflow_few (basin n o w) = omega arith
@@ -57,35 +60,3 @@ heights_of (merge n o w c a b l r) s few =
     let u : heights (records l ++ records r) s ≡ height r ∷ height l ∷ s = cc (heights_append (records l) (records r) s) in
     let m : min (max (height l) (height r) + 1) 65535 ≡ max (height l) (height r) + 1 = omega (arith, height_few l, height_few r) in
     cc (heights_append (records l ++ records r) (Merge o w c a b ∷ []) s)
-
--- Every own volume among these is below 2^40.
-abbrev pub AllSmall : List Node → Type 0
-AllSmall xs = (k : ℕ) → own_in (get_or xs k Unused) < 2 ^ 40
-
-small_one : (x : Node) → own_in x < 2 ^ 40 → AllSmall (x ∷ [])
-small_one x h zero = h
-small_one x h (suc k) = omega arith
-
-pub small_append : (xs ys : List Node) → AllSmall xs → AllSmall ys → AllSmall (xs ++ ys)
-small_append xs ys p q k =
-    ⊎_elim
-    (λ h. subst (λ (x : Node). own_in x < 2 ^ 40) (sym (get_or_append_left xs ys Unused k h)) (p k))
-    (λ h. subst (λ (x : Node). own_in x < 2 ^ 40) (sym (get_or-append_right xs ys (length xs) k Unused refl h)) (q (k - length xs)))
-    (cases_lt k (length xs))
-
--- The records of a tree that is shaped as a site's are small.
-pub records_small : (t : Tree) → Shaped t → AllSmall (records t)
-records_small (basin n o w) h = small_one (Basin o w) h
-records_small (outlet n w) h = small_one (Outlet w) (omega arith)
-records_small (merge n o w c a b l r) h =
-    small_append (records l ++ records r) (Merge o w c a b ∷ [])
-    (small_append (records l) (records r) (records_small l h.0) (records_small r h.1))
-    (small_one (Merge o w c a b) h.2)
-
--- The own volumes of a site's records can be added up.
-pub volumes_fit : (xs : List Node) → length xs ≤ 1023 → AllSmall xs → own_sum xs < 2 ^ 64
-volumes_fit xs few small =
-    let all = All-from_get_or (λ x. own_in x ≤ 2 ^ 40) xs Unused (λ k h. let s = small k in omega arith) in
-    let most = sum_by-le own_in (2 ^ 40) xs all in
-    let few' = mul-le-mul_right (2 ^ 40) few in
-    omega arith

@@ -102,11 +102,6 @@ reached_with e i file reader loading fe place count built list asked =
     let here = subst (P reader.file.now) (sym count) (subst (λ (f : List ℕ). P f i) (sym fe) (place, built, list, asked)) in
     record { place = here.0; built = here.1; listed = here.2; asked = here.3 }
 
--- A refusal that is the first no, however many records follow, is the answer.
-pub filled_err : (e : Format) (i : ℕ) (file : List ℕ) (reader : Reader) (loading : Loading) (r : Result (Unit {0}) Refusal) (x : Refusal) →
-    r ≡ Err x → ((n : ℕ) → i ≤ n → first_no (questions_from e file n 0) ≡ Some x) → Filled e i file reader loading r
-filled_err e i file reader loading r x re h = subst (Filled e i file reader loading) (sym re) h
-
 -- The loader's questions of record i are those of the file.
 seen_asked : (e : Format) (i at : ℕ) (file : List ℕ) (said : Record) (t : Table) (s : List Summary) → Building t s (waiting e file i) → t.count ≤ 1023 →
     at ≡ start_of e file i → said ≡ record_in e file i → questions_seen t s said at ≡ tree_asked e file i

@@ -1,2 +1,1 @@
 mod Numbers
-pub mod Stepping

@@ -32,8 +32,7 @@ module _ (a : Leaf) (s : State) (at : ℕ) (e : Ok at ≡ verdict (first_no (lev
 module _ (a : Leaf) (s : State) where
   pub level_no_leaf : (x : Refusal) (r : Result Litres Refusal) → Err x ≡ verdict (first_no (level_questions a s)) a.0 → r ≡ Err x →
       r ≡ verdict (first_no (level_questions a s)) (litres (level a.0 s.tree))
-  level_no_leaf x r e f =
-      f ∙ ap (λ (o : Option Refusal). verdict o (litres (level a.0 s.tree))) (sym (verdict_err (first_no (level_questions a s)) x a.0 e))
+  level_no_leaf x r e f = cc (verdict_err (first_no (level_questions a s)) x a.0 e)
 
   pub level_told : (at : ℕ) (v : Litres) → Ok at ≡ verdict (first_no (level_questions a s)) a.0 → v.0 ≡ level at s.tree →
       level_answer v ≡ verdict (first_no (level_questions a s)) (litres (level a.0 s.tree))
@@ -43,15 +42,11 @@ module _ (a : Leaf) (s : State) where
 
 -- What rain answers, where n is the rain accepted so far.
 module _ (a : Leaf) (v : Litres) (s : State) where
-  abbrev asked : Option Refusal → Result (Unit {0}) Refusal
-  asked o = verdict o tt
-
   -- What is no leaf is refused first.
   pub rain_no_leaf : (x : Refusal) (r : Result (Unit {0}) Refusal) → Err x ≡ verdict (first_no (level_questions a s)) a.0 → r ≡ Err x →
       r ≡ verdict (first_no (rain_questions a v s)) tt
   rain_no_leaf x r e f =
-      f ∙ ap asked
-      (sym (some_stopped (level_questions a s) (limit_question v s.accepted ∷ []) x (verdict_err (first_no (level_questions a s)) x a.0 e)))
+      cc (some_stopped (level_questions a s) (limit_question v s.accepted ∷ []) x (verdict_err (first_no (level_questions a s)) x a.0 e))
 
   module _ (at n : ℕ) (e : Ok at ≡ verdict (first_no (level_questions a s)) a.0) (same : n ≡ s.accepted) where
     limit_asked : first_no (rain_questions a v s) ≡ first_no (limit_question v n ∷ [])
@@ -61,7 +56,7 @@ module _ (a : Leaf) (v : Litres) (s : State) where
 
     pub rain_past_limit : (x : Refusal) (r : Result (Unit {0}) Refusal) → Err x ≡ verdict (first_no (limit_question v n ∷ [])) (n + v.0) → r ≡ Err x →
         r ≡ verdict (first_no (rain_questions a v s)) tt
-    rain_past_limit x r f g = g ∙ ap asked (sym (limit_asked ∙ verdict_err (first_no (limit_question v n ∷ [])) x (n + v.0) f))
+    rain_past_limit x r f g = cc (limit_asked, verdict_err (first_no (limit_question v n ∷ [])) x (n + v.0) f)
 
 -- Rain that is within the limit is counted.
 pub rain_counted : (v : Litres) (n k : ℕ) → Ok k ≡ verdict (first_no (limit_question v n ∷ [])) (n + v.0) → (k ≡ n + v.0) × (n + v.0 ≤ 2 ^ 60)

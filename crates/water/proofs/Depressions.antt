@@ -10,7 +10,7 @@ use Rattle.water.specs.Parts.{number, Part, Names, has_record}
 use Rattle.water.specs.Depression.{free, Stays, Spills}
 use Rattle.water.proofs.Steps.{poured_left, poured_right}
 use Rattle.water.proofs.Order.{obeys, leftward, rightward, to_left, to_right, quiet}
-use Rattle.water.proofs.Shape.{shape_kept, open_same, volume_same, number_same, numbered_same}
+use Rattle.water.proofs.Shape.{shape_kept, kept_same, open_same, volume_same, number_same, numbered_same}
 use Rattle.water.proofs.Keep.{balance, full_passes, full_parts, full_from, within_kept}
 use Rattle.water.proofs.Room.{closed_excess, open_excess, room_is, formed_open}
 use Rattle.water.proofs.Numbers.{last_number, leaf_number, part_self, names}
@@ -62,7 +62,7 @@ record_dried k (outlet n w) = refl
 record_dried k (merge n o w c x y l r) = ap₂ (λ (i j : Bool). eqb k n || (i || j)) (record_dried k l) (record_dried k r)
 
 record_same : (k : ℕ) (s t : Tree) → dried s ≡ dried t → has_record k s ≡ has_record k t
-record_same k s t e = sym (record_dried k s) ∙ ap (λ (i : Tree). has_record k i) e ∙ record_dried k t
+record_same k = kept_same (has_record k) (record_dried k)
 
 -- What rises when v litres fall at a leaf of the part s and none leaves it.
 record Rise (a v : ℕ) (t s : Tree) : Type 0 where

@@ -75,24 +75,27 @@ shaped_dried (merge n o w c x y l r) =
       λ h. (hl.1 h.0, hr.1 h.1, h.2, sym xl ∙ h.3, sym yr ∙ h.4, λ k. h.5 (op ∙ k)),
     )
 
--- What a tree and another of the same shape share.
+-- What drying leaves is the same for a tree and another of the same shape.
+pub kept_same : {A : Type 0} (f : Tree → A) → ((t : Tree) → f (dried t) ≡ f t) → (s t : Tree) → dried s ≡ dried t → f s ≡ f t
+kept_same f kept s t e = sym (kept s) ∙ ap f e ∙ kept t
+
 pub size_same : (s t : Tree) → dried s ≡ dried t → size s ≡ size t
-size_same s t e = sym (size_dried s) ∙ ap size e ∙ size_dried t
+size_same = kept_same size size_dried
 
 pub outlets_same : (s t : Tree) → dried s ≡ dried t → outlets s ≡ outlets t
-outlets_same s t e = sym (outlets_dried s) ∙ ap outlets e ∙ outlets_dried t
+outlets_same = kept_same outlets outlets_dried
 
 pub open_same : (s t : Tree) → dried s ≡ dried t → is_open s ≡ is_open t
-open_same s t e = sym (open_dried s) ∙ ap is_open e ∙ open_dried t
+open_same = kept_same is_open open_dried
 
 pub leaf_same : (k : ℕ) (s t : Tree) → dried s ≡ dried t → has_leaf k s ≡ has_leaf k t
-leaf_same k s t e = sym (leaf_dried k s) ∙ ap (λ (i : Tree). has_leaf k i) e ∙ leaf_dried k t
+leaf_same k = kept_same (has_leaf k) (leaf_dried k)
 
 pub volume_same : (s t : Tree) → dried s ≡ dried t → volume s ≡ volume t
-volume_same s t e = sym (volume_dried s) ∙ ap volume e ∙ volume_dried t
+volume_same = kept_same volume volume_dried
 
 pub number_same : (s t : Tree) → dried s ≡ dried t → number s ≡ number t
-number_same s t e = sym (number_dried s) ∙ ap number e ∙ number_dried t
+number_same = kept_same number number_dried
 
 pub numbered_same : (b : ℕ) (s t : Tree) → dried s ≡ dried t → Numbered b s → Numbered b t
 numbered_same b s t e h = (numbered_dried b t).1 (subst (λ (i : Tree). Numbered b i) e ((numbered_dried b s).0 h))

@@ -1,6 +1,5 @@
-use Rattle.std.proofs.Common.{ℕ, Err, sym, ap, ◌∙◌, subst, arith}
-use Rattle.std.proofs.lemmas.Result.{err_from_is_err_and}
-use Rattle.questions.proofs.Asked.{answer_in_words}
+use Rattle.std.proofs.Common.{ℕ, sym, ap, ◌∙◌, subst, arith}
+use Rattle.questions.proofs.Asked.{answer_in_words, refused_with}
 use Rattle.water.specs.Calls.{LevelIs, level_questions}
 use Rattle.water.specs.Level.{level}
 use Rattle.water.specs.State.{litres}
@@ -15,9 +14,8 @@ pub returns-in_err-place-clause-first_no : goal.returns-in_err-place-clause-firs
 returns-in_err-place-clause-first_no c =
     let a = c.args.leaf in
     let s = c.args.self.now in
-    let p = err_from_is_err_and c.from_residual.result c.from_residual.ensures.1 in
     answer_in_words (level_questions a s) _ (litres (level a.0 s.tree))
-    (level_no_leaf a s c.in_err-place.field-0.0 c.from_residual.result c.in_err-place.ensures (p.1 ∙ ap Err p.2))
+    (level_no_leaf a s c.in_err-place.field-0.0 c.from_residual.result c.in_err-place.ensures (refused_with c.from_residual.ensures.1))
 
 pub survey-seen-requires-clause-rooted : goal.survey-seen-requires-clause-rooted
 survey-seen-requires-clause-rooted c =

@@ -1,6 +1,5 @@
-use Rattle.std.proofs.Common.{Err, sym, ap, ◌∙◌, subst, arith}
-use Rattle.std.proofs.lemmas.Result.{err_from_is_err_and}
-use Rattle.questions.proofs.Asked.{answer_in_words}
+use Rattle.std.proofs.Common.{sym, subst, arith}
+use Rattle.questions.proofs.Asked.{answer_in_words, refused_with}
 use Rattle.water.specs.Calls.{Rained, rain_questions}
 use Rattle.water.proofs.Calling.{rained}
 use Rattle.water.proofs.Answered.{leaf_there, rain_counted, rain_no_leaf, rain_past_limit}
@@ -14,9 +13,8 @@ returns-in_err-at-clause-first_no c =
     let a = c.args.leaf in
     let v = c.args.litres in
     let s = c.args.self.now in
-    let p = err_from_is_err_and c.from_residual.result c.from_residual.ensures.1 in
     answer_in_words (rain_questions a v s) _ tt
-    (rain_no_leaf a v s c.in_err-at.field-0.0 c.from_residual.result c.in_err-at.ensures (p.1 ∙ ap Err p.2))
+    (rain_no_leaf a v s c.in_err-at.field-0.0 c.from_residual.result c.in_err-at.ensures (refused_with c.from_residual.ensures.1))
 
 pub returns-in_err-accepted-clause-first_no : goal.returns-in_err-accepted-clause-first_no
 returns-in_err-accepted-clause-first_no c =
@@ -24,10 +22,9 @@ returns-in_err-accepted-clause-first_no c =
     let v = c.args.litres in
     let s = c.args.self.now in
     let h = held_is c.self.invariant c.self.view_is in
-    let p = err_from_is_err_and c.from_residual-in_err-accepted.result c.from_residual-in_err-accepted.ensures.1 in
     answer_in_words (rain_questions a v s) _ tt
     (rain_past_limit a v s c.in_ok-at.at c.self.inside.accepted c.in_ok-at.ensures h.accepted
-    c.in_err-accepted.field-0.0 c.from_residual-in_err-accepted.result c.in_err-accepted.ensures (p.1 ∙ ap Err p.2))
+    c.in_err-accepted.field-0.0 c.from_residual-in_err-accepted.result c.in_err-accepted.ensures (refused_with c.from_residual-in_err-accepted.ensures.1))
 
 pub pour-requires-clause-rooted : goal.pour-requires-clause-rooted
 pour-requires-clause-rooted c =

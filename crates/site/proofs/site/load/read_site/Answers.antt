@@ -1,11 +1,9 @@
-use Rattle.std.proofs.Common.{◌≡◌, Err, Option, sym, refl, ap, ◌∙◌, subst}
-use Rattle.std.proofs.lemmas.Result.{err_from_is_err_and}
+use Rattle.std.proofs.Common.{◌≡◌, sym, refl, subst}
 use Rattle.questions.specs.Ask.{first_no, verdict}
-use Rattle.terrain.specs.declared.refusal.Refusal.{Refusal}
 use Rattle.site.specs.Loaded.{SiteRead, accepts, refuses}
 use Rattle.site.specs.Questions.{questions}
 use Rattle.site.specs.Spell.{tree_in}
-use Rattle.questions.proofs.Asked.{answer_in_words}
+use Rattle.questions.proofs.Asked.{answer_in_words, refused_with}
 use Rattle.site.proofs.Loads.{only_tree, table_read, table_refused}
 use Rattle.site.proofs.OneTree.{held, one_state}
 use Rattle.site.proofs.Sounds.{dry_holds}
@@ -24,7 +22,7 @@ returns c =
     let h = c.in_ok-table.ensures in
     let p = table_read file c.in_ok-table.table h in
     let holds = dry_holds c.in_ok-table.table (tree_in file) p.1 (h.formed refl) (h.dry refl) in
-    let a : accepts ≡ verdict (first_no (questions file)) tt = ap (λ (o : Option Refusal). verdict o tt) (sym p.0) in (
+    let a : accepts ≡ verdict (first_no (questions file)) tt = cc (p.0) in (
       a,
       answer_in_words (questions file) accepts tt a,
       record {
@@ -40,7 +38,6 @@ pub returns-in_err-table : goal.returns-in_err-table
 returns-in_err-table c =
     let file = c.args.file.now in
     let x = c.in_err-table.field-0.0 in
-    let p = err_from_is_err_and c.from_residual.result c.from_residual.ensures.1 in
     let q = table_refused file x c.in_err-table.ensures in
-    let a : refuses x ≡ verdict (first_no (questions file)) tt = ap (λ (o : Option Refusal). verdict o tt) (sym q) in
-    subst (SiteRead file) (sym (p.1 ∙ ap Err p.2)) (a, answer_in_words (questions file) (refuses x) tt a)
+    let a : refuses x ≡ verdict (first_no (questions file)) tt = cc in
+    subst (SiteRead file) (sym (refused_with c.from_residual.ensures.1)) (a, answer_in_words (questions file) (refuses x) tt a)
