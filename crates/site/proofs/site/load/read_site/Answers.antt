@@ -1,4 +1,4 @@
-use Rattle.std.proofs.Common.{◌≡◌, sym, refl, subst}
+use Rattle.std.proofs.Common.{◌≡◌, ◌∙◌, sym, refl, subst}
 use Rattle.questions.specs.Ask.{first_no, verdict}
 use Rattle.site.specs.Loaded.{SiteRead, accepts, refuses}
 use Rattle.site.specs.Questions.{questions}
