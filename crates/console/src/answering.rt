@@ -4,7 +4,7 @@ ghost use Rattle.console.specs.Grammar.{Reads};
 ghost use Rattle.console.specs.Reply.{reply_bytes};
 ghost use Rattle.console.specs.declared.command.Command.{Command as Asked};
 ghost use Rattle.water.specs.State.{Standing};
-ghost use Rattle.std.specs.Prelude.{◌≡◌, IfOk, Some as Just, string_bytes, Option as Maybe};
+ghost use Rattle.std.specs.Prelude.{◌≡◌, IfOk, string_bytes, Option as Maybe};
 
 use crate::command::Command;
 use crate::reply::{Answer, Reply};

@@ -36,6 +36,14 @@ sides_seen t rec (r ∷ []) = false
 sides_seen t rec (r ∷ l ∷ s) =
     leaf_among t.nodes rec.left l.first r.first && leaf_among t.nodes rec.right r.first t.count
 
+-- A record's landings, refused.
+abbrev pub landings_refused : Record → ℕ → Refusal
+landings_refused rec at = Landings rec.left rec.right (at + 2)
+
+-- What is asked of a leaf: are its landings 0?
+abbrev pub leaf_question : Record → ℕ → List (Question Refusal)
+leaf_question rec at = ask (rec.left == 0 && rec.right == 0) (landings_refused rec at) ∷ []
+
 -- Leaves have landings 0.
 abbrev pub landed_seen : Kind → Table → Record → List Summary → Bool
 landed_seen Basin t rec s = rec.left == 0 && rec.right == 0
@@ -58,7 +66,7 @@ open_seen Merge rec s = not (nat_lt 0 (outlets_seen s)) || rec.own == 0
 abbrev pub questions_seen : Table → List Summary → Record → ℕ → List (Question Refusal)
 questions_seen t s rec at =
     ask (enough_seen rec.kind s) (Waiting (length s) at)
-    ∷ ask (landed_seen rec.kind t rec s) (Landings rec.left rec.right (at + 2))
+    ∷ ask (landed_seen rec.kind t rec s) (landings_refused rec at)
     ∷ ask (open_seen rec.kind rec s) (OpenVolume rec.own (at + 8))
     ∷ []
 

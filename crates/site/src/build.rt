@@ -22,7 +22,7 @@ pub(crate) fn build<E: Edition>(
     requires close { end ≡ length reader.old.file.now - 12 }
     ensures { Spelled (said_by E.Edition) trailer.now.count reader.old.file.now result }
 {
-    let _ = reader.bytes(trailer.note);
+    let _note = reader.bytes(trailer.note).unwrap();
     let mut slots = [Summary::default(); PLACES];
     let mut loading = Loading::new(&mut slots);
     loading.fill::<E>(reader, trailer.count)?;

@@ -1,8 +1,7 @@
 // One record more on the tree that is being loaded.
-ghost use Rattle.std.specs.Prelude.{◌≡◌, ◌+◌, ◌^◌, ◌<◌, ◌&&◌, true, [], ◌∷◌, is_ok, ◌==◌, slice_set};
-ghost use Rattle.site.specs.Loader.{Grew, end_seen, leaf_among};
-ghost use Rattle.questions.specs.Ask.{ask, first_no, verdict};
-ghost use Rattle.terrain.specs.declared.refusal.Refusal.TheVariants.{Landings};
+ghost use Rattle.std.specs.Prelude.{◌≡◌, ◌+◌, ◌^◌, ◌<◌, ◌&&◌, true, ◌∷◌, is_ok, slice_set};
+ghost use Rattle.site.specs.Loader.{Grew, end_seen, landings_refused, leaf_among, leaf_question};
+ghost use Rattle.questions.specs.Ask.{first_no, verdict};
 ghost use Rattle.terrain.specs.declared.record.Kind.TheVariants.{Merge};
 
 use crate::loading::Loading;
@@ -20,7 +19,7 @@ pub(crate) struct Placed {
 impl Placed {
     // Refuses its landings.
     fn landings_refused(&self) -> Refusal
-        ensures { result ≡ Landings self.now.said.left self.now.said.right (self.now.at + 2) }
+        ensures { result ≡ landings_refused self.now.said self.now.at }
     {
         Refusal::Landings {
             left: self.said.left,
@@ -31,7 +30,7 @@ impl Placed {
 
     // Leaves have landings 0.
     fn leaf_landings(&self) -> Result<(), Refusal>
-        ensures { result ≡ verdict (first_no (ask (self.now.said.left == 0 && self.now.said.right == 0) (Landings self.now.said.left self.now.said.right (self.now.at + 2)) ∷ [])) tt }
+        ensures { result ≡ verdict (first_no (leaf_question self.now.said self.now.at)) tt }
     {
         match (self.said.left, self.said.right) {
             (0, 0) => Ok(()),
@@ -93,7 +92,7 @@ impl Loading<'_> {
     // A leaf is a subtree of its own.
     fn leaf(&mut self, placed: &Placed, node: Node, outlets: u16) -> Result<(), Refusal>
         requires { self.old.table.count < 1023 }
-        ensures answer { result ≡ verdict (first_no (ask (placed.now.said.left == 0 && placed.now.said.right == 0) (Landings placed.now.said.left placed.now.said.right (placed.now.at + 2)) ∷ [])) tt }
+        ensures answer { result ≡ verdict (first_no (leaf_question placed.now.said placed.now.at)) tt }
         ensures table { is_ok result ≡ true → self.new.table ≡ record { nodes = slice_set self.old.table.nodes self.old.table.count node; count = self.old.table.count + 1 } }
         ensures waiting { is_ok result ≡ true → self.new.waiting.items ≡ record { first = self.old.table.count; outlets = outlets } ∷ self.old.waiting.items }
     {

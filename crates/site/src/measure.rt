@@ -1,7 +1,6 @@
 // Sums and heights, in one pass over the records.
-ghost use Rattle.std.specs.Prelude.{◌≡◌, ℕ, ◌+◌, ◌*◌, ◌^◌, ◌<◌, ◌≤◌, [], length, slice_index_or};
-ghost use Rattle.site.specs.Measures.{drained_sum, heights, heights_after, joined_heights, newest_height, own_in, own_sum};
-ghost use Rattle.site.specs.declared.node.Node.TheVariants.{Unused};
+ghost use Rattle.std.specs.Prelude.{◌≡◌, ◌^◌, ◌<◌, ◌≤◌, [], length};
+ghost use Rattle.site.specs.Measures.{drained_sum, heights, heights_after, joined_heights, newest_height, own_sum};
 
 use crate::node::Node;
 use crate::table::PLACES;

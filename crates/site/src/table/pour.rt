@@ -82,6 +82,8 @@ impl Table {
         self.nodes[at].fill_up(litres)
     }
 
+    // `place` is a clause of its own here and in `survey`: an index asks for a plain bound, and `Rooted` is only known to
+    // hold of some tree.
     // Pours litres at a leaf of the subtree below `root`, and answers what leaves the subtree: the side that has the
     // leaf comes first, its excess lands in the other side, and what that lets out comes to the merge itself.
     pub(crate) fn pour(&mut self, root: usize, leaf: usize, litres: u64) -> u64

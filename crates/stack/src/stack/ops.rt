@@ -4,6 +4,7 @@ ghost use Rattle.stack.specs.Stack.{Popped, Pushed, newest};
 
 use super::Stack;
 
+// `within` stands on each question and change: it is the model's invariant, which a caller does not see.
 impl<'a, T: Copy> Stack<'a, T> {
     // An empty stack with a place for each element of the slice.
     pub fn new(items: &'a mut [T]) -> Stack<'a, T>
