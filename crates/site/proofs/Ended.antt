@@ -16,7 +16,8 @@ use Rattle.site.specs.Loaded.{accepts, refuses}
 use Rattle.site.specs.Loader.{end_seen}
 use Rattle.site.specs.Postorder.{postorder}
 use Rattle.site.specs.Questions.{end_questions, outlets_of, questions_from}
-use Rattle.site.specs.Spell.{newest, waiting}
+use Rattle.site.specs.Spell.{waiting}
+use Rattle.water.specs.Waiting.{newest}
 use Rattle.site.specs.declared.node.Node.{Node}
 use Rattle.site.specs.declared.node.Node.TheVariants.{Unused}
 use Rattle.site.specs.declared.loading.Loading.{Loading}

@@ -7,7 +7,7 @@ use Rattle.water.specs.State.{State}
 use Rattle.site.specs.Held.{Held, Holds}
 use Rattle.site.specs.Records.{records, table_of}
 use Rattle.site.specs.Shows.{read_from, shown, tree_on}
-use Rattle.site.specs.Spell.{newest}
+use Rattle.water.specs.Waiting.{newest}
 use Rattle.site.specs.declared.node.Node.{Node}
 use Rattle.site.specs.declared.node.Node.TheVariants.{Unused, Merge}
 use Rattle.site.specs.declared.table.Table.{Table}

@@ -2,23 +2,17 @@
 use Rattle.std.specs.Prelude.{ℕ, ◌+◌, List, [], ◌∷◌}
 use Rattle.water.specs.Tree.{Tree, basin, outlet, merge}
 use Rattle.water.specs.State.{State}
-use Rattle.site.specs.Spell.{newest}
+use Rattle.water.specs.Waiting.{newest, two_joined}
 use Rattle.site.specs.declared.node.Node.{Node}
 use Rattle.site.specs.declared.node.Node.TheVariants.{Unused, Basin, Outlet, Merge}
 use Rattle.site.specs.declared.table.Table.{Table}
-
--- A merge joins the two subtrees that were finished last; the earlier one is its left side.
-abbrev pub joined_at : (i own water cut left right : ℕ) → List Tree → List Tree
-joined_at i o w c x y [] = []
-joined_at i o w c x y (r ∷ []) = r ∷ []
-joined_at i o w c x y (r ∷ l ∷ s) = merge i o w c x y l r ∷ s
 
 -- The subtrees that wait after place i, the newest first, where s waited before it.
 abbrev pub read_node : ℕ → Node → List Tree → List Tree
 read_node i Unused s = s
 read_node i (Basin o w) s = basin i o w ∷ s
 read_node i (Outlet w) s = outlet i w ∷ s
-read_node i (Merge o w c x y) s = joined_at i o w c x y s
+read_node i (Merge o w c x y) s = two_joined (merge i o w c x y) s
 
 -- The subtrees that wait after the places from i on.
 abbrev pub read_from : ℕ → List Node → List Tree → List Tree

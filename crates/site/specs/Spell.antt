@@ -7,12 +7,11 @@ use Rattle.terrain.specs.declared.record.Record.{Record}
 use Rattle.terrain.specs.declared.record.Kind.{Kind}
 use Rattle.terrain.specs.declared.record.Kind.TheVariants.{Basin, Merge, Outlet}
 use Rattle.water.specs.Tree.{Tree, basin, outlet, merge, first}
+use Rattle.water.specs.Waiting.{newest, two_joined}
 
--- A merge joins the two subtrees that were finished last; the earlier one is its left side.
+-- What a merge joins, dry: its right side begins with the first record of the later subtree.
 abbrev pub joined : ℕ → Record → List Tree → List Tree
-joined i rec [] = []
-joined i rec (r ∷ []) = r ∷ []
-joined i rec (r ∷ l ∷ w) = merge i rec.own 0 (first r) rec.left rec.right l r ∷ w
+joined i rec w = two_joined (λ l r. merge i rec.own 0 (first r) rec.left rec.right l r) w
 
 -- The subtrees that wait after record i, the newest first, where w waited before it.
 abbrev pub grown_by : Kind → ℕ → Record → List Tree → List Tree
@@ -36,11 +35,6 @@ record_in e file i = record_of e (part file (start_of e file i) e.record_len)
 abbrev pub waiting : Format → List ℕ → ℕ → List Tree
 waiting e file zero = []
 waiting e file (suc i) = grown i (record_in e file i) (waiting e file i)
-
--- The newest subtree that waits; a lone outlet where none does.
-abbrev pub newest : List Tree → Tree
-newest [] = outlet 0 0
-newest (t ∷ w) = t
 
 -- The tree that n records spell.
 abbrev pub tree_of : Format → List ℕ → ℕ → Tree

@@ -4,6 +4,7 @@ use Rattle.std.specs.Coded.{Coded, code_by, coded×, coded⊎, coded_list, coded
 use Rattle.std.proofs.Common.{ap, ◌∙◌, inl, inr}
 use Rattle.water.specs.Tree.{Tree, basin, outlet, merge}
 use Rattle.water.specs.State.{State}
+use Rattle.water.specs.Waiting.{newest, two_joined}
 
 -- What a record says of itself: of a basin, an outlet or a merge all its numbers.
 abbrev Said : Type 0
@@ -15,27 +16,16 @@ all_said (basin n o w) = inl (n, (o, w)) ∷ []
 all_said (outlet n w) = inr (inl (n, w)) ∷ []
 all_said (merge n o w c x y l r) = all_said l ++ (all_said r ++ (inr (inr ((n, (o, w)), (c, (x, y)))) ∷ []))
 
--- A merge joins the two newest trees that wait.
-abbrev joined : (ℕ × (ℕ × ℕ)) × (ℕ × (ℕ × ℕ)) → List Tree → List Tree
-joined p [] = []
-joined p (r ∷ []) = r ∷ []
-joined p (r ∷ l ∷ s) = merge p.0.0 p.0.1.0 p.0.1.1 p.1.0 p.1.1.0 p.1.1.1 l r ∷ s
-
 -- The trees that wait after one record more, the newest first.
 abbrev after : Said → List Tree → List Tree
 after (inl p) s = basin p.0 p.1.0 p.1.1 ∷ s
 after (inr (inl p)) s = outlet p.0 p.1 ∷ s
-after (inr (inr p)) s = joined p s
+after (inr (inr p)) s = two_joined (merge p.0.0 p.0.1.0 p.0.1.1 p.1.0 p.1.1.0 p.1.1.1) s
 
 -- The trees that wait after a list of records.
 abbrev after_all : List Said → List Tree → List Tree
 after_all [] s = s
 after_all (x ∷ xs) s = after_all xs (after x s)
-
--- The newest of them, or a lone outlet.
-abbrev newest : List Tree → Tree
-newest [] = outlet 0 0
-newest (t ∷ s) = t
 
 -- The tree that a list of records gives back.
 abbrev given_back : List Said → Tree

@@ -11,6 +11,7 @@ pub mod Depression
 pub mod Level
 pub mod Case
 pub mod State
+pub mod Waiting
 pub mod Code
 pub mod Calls
 pub mod Examples
