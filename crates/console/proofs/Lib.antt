@@ -1,3 +1,4 @@
 mod Values
+mod Folding
 mod Spaces
 mod Spelling

@@ -1,11 +1,7 @@
 -- Which command a line spells, by its first bytes.
-use Rattle.std.proofs.Common.{◌≡◌, ℕ, List, ◌∷◌, Some, None, Option, codes, ◌++◌, refl, sym, ap, ◌∙◌, subst, arith, rules}
-use Rattle.std.proofs.lemmas.Str.{IsUtf8-append, IsUtf8-from_ascii}
-use Rattle.std.specs.Str.{IsUtf8}
-use Rattle.std.specs.Str.Pattern.{FindsTextPrefix, StripsPrefix}
+use Rattle.std.proofs.Common.{◌≡◌, ℕ, List, ◌∷◌, Some, None, Option, refl, subst, arith}
 use Rattle.console.specs.Grammar.{Reads, Spells, TwoNumerals}
 use Rattle.console.specs.Parts.{ReadsTwo}
-use Rattle.console.proofs.Values.{digits_are_text}
 use Rattle.console.specs.declared.command.Command.{Command}
 use Rattle.console.specs.declared.command.Command.TheVariants.{Rain, Level, Totals}
 
@@ -35,24 +31,6 @@ rain_read line rest m n e r = ((rest, r.0, e), only)
 
 pub rain_not_read : (line rest : List ℕ) → line ≡ 82 ∷ 32 ∷ rest → ReadsTwo rest None → Reads line None
 rain_not_read line rest e r d s = let u = only_rain line rest e d s in r u.0 u.1 u.2
-
--- What is left where `R ` is stripped follows it.
-pub after_letter : (line rest : List ℕ) → StripsPrefix (FindsTextPrefix (codes "R ")) line rest → line ≡ 82 ∷ 32 ∷ rest
-after_letter line rest (n, found, cut, most) = found.1 ∙ ap (λ (l : List ℕ). 82 ∷ 32 ∷ l) (sym cut)
-
--- A line that spells a command is text.
-spelt_is_text : (line : List ℕ) (d : Command) → Spells line d → IsUtf8 line
-spelt_is_text line (Rain leaf litres) (rest, two, e) =
-    let second = IsUtf8-append (codes " ") two.right (IsUtf8-from_ascii _ (search rules)) (digits_are_text two.right two.second.digits) in
-    let both = IsUtf8-append two.left (codes " " ++ two.right) (digits_are_text two.left two.first.digits) second in
-    rw e (IsUtf8-append (codes "R ") rest (IsUtf8-from_ascii _ (search rules)) (rw two.parts both))
-spelt_is_text line (Level leaf) (rest, one, e) =
-    rw e (IsUtf8-append (codes "L ") rest (IsUtf8-from_ascii _ (search rules)) (digits_are_text rest one.digits))
-spelt_is_text line Totals e = rw e (IsUtf8-from_ascii _ (search rules))
-
--- What is no text spells nothing: each command is digits after ASCII.
-pub not_text_read : (line : List ℕ) → ¬ (IsUtf8 line) → Reads line None
-not_text_read line h d s = h (spelt_is_text line d s)
 
 -- A command that is read is a reading.
 pub is_read : (line : List ℕ) (c : Command) → Reads line (Some c) → (o : Option Command) × Reads line o
