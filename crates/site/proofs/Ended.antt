@@ -10,7 +10,7 @@ use Rattle.terrain.specs.declared.refusal.Refusal.{Refusal}
 use Rattle.water.specs.Formed.{Formed, Numbered}
 use Rattle.water.specs.Tree.{Tree, dried, first, size}
 use Rattle.site.specs.Building.{Building, listed, summary_of}
-use Rattle.site.specs.Fill.{Reached, Spelled}
+use Rattle.site.specs.Fill.{Reached, Spelled, loaded_into}
 use Rattle.site.specs.Held.{tabled}
 use Rattle.site.specs.Loaded.{accepts, refuses}
 use Rattle.site.specs.Loader.{end_seen}
@@ -63,7 +63,7 @@ one_tree table s (t ∷ []) b few one out =
     }
 
 -- A refusal is no acceptance.
-pub no_ok : {A : Type 0} (r : Result A Refusal) (x : Refusal) → r ≡ Err x → is_ok r ≡ true → ⊥
+no_ok : {A : Type 0} (r : Result A Refusal) (x : Refusal) → r ≡ Err x → is_ok r ≡ true → ⊥
 no_ok r x re k = let f : is_ok r ≡ false = ap is_ok re in cc
 
 -- A question answered no is what the records give.
@@ -101,12 +101,12 @@ module _ (e : Format) (n at : ℕ) (file : List ℕ) (reader : Reader) (loading 
             ∙ ap (λ (k : ℕ). first_no (end_questions k w)) (sym close') ∙ end,
       )
 
-  pub ended_err : (r : Result Table Refusal) (x : Refusal) → r ≡ Err x → refuses x ≡ verdict (first_no (end_seen at loading.waiting.items)) tt → Spelled e n file r
+  ended_err : (r : Result Table Refusal) (x : Refusal) → r ≡ Err x → refuses x ≡ verdict (first_no (end_seen at loading.waiting.items)) tt → Spelled e n file r
   ended_err r x re q =
       here r (stopped_err e loading.table.count reader.file.now r x re
       (decides (Some x) (verdict_err (first_no (end_seen at loading.waiting.items)) x tt q)).1)
 
-  pub ended_ok : n ≤ 1023 → accepts ≡ verdict (first_no (end_seen at loading.waiting.items)) tt → Spelled e n file (Ok loading.table)
+  ended_ok : n ≤ 1023 → accepts ≡ verdict (first_no (end_seen at loading.waiting.items)) tt → Spelled e n file (Ok loading.table)
   ended_ok few q =
       let w : List Tree = waiting e reader.file.now loading.table.count in
       let none = decides None (verdict_ok (first_no (end_seen at loading.waiting.items)) tt tt q).0 in
@@ -118,3 +118,9 @@ module _ (e : Format) (n at : ℕ) (file : List ℕ) (reader : Reader) (loading 
         dry = λ _. t.dry;
         spelled = λ _. t.listed ∙ so_far.listed;
       }
+
+  -- The answer to the last questions, either way.
+  pub ended : n ≤ 1023 → (r : Result (Unit {0}) Refusal) → r ≡ verdict (first_no (end_seen at loading.waiting.items)) tt →
+      Spelled e n file (loaded_into loading.table r)
+  ended few (Ok _) q = ended_ok few q
+  ended few (Err x) q = ended_err (Err x) x refl q

@@ -56,7 +56,7 @@ module _ (nodes : List Node) (root : ℕ) {o w c x y : ℕ} (is : get_or nodes r
         ∥∥₁_elim h le_prop (λ k. let d = sides nodes root is k.0 k.1 k.2 k.3 in
         omega (arith, k.4, ap held d.whole, ap (λ (v : Survey). v.held) (p _ d.left _ d.in_left), ap (λ (v : Survey). v.held) (q _ d.right _ d.in_right)))
 
-    -- What is seen of the two sides nodes root is what there is to see of the merge.
+    -- What is seen of the two sides is what there is to see of the merge.
     pub merge_seen : SurveyedAt nodes root leaf (joined left right o w (ltb leaf c))
     merge_seen before t after s =
         let d = sides nodes root is before t after s in

@@ -40,6 +40,11 @@ abbrev pub Filled : Format → ℕ → List ℕ → Reader → Loading → Resul
 Filled e i file reader loading (Ok _) = Reached e reader loading × (loading.table.count ≡ i)
 Filled e i file reader loading (Err x) = (n : ℕ) → i ≤ n → first_no (questions_from e file n 0) ≡ Some x
 
+-- What loading into a table gives: the table as it stands then, or the first question answered no.
+abbrev pub loaded_into : Table → Result (Unit {0}) Refusal → Result Table Refusal
+loaded_into table (Ok _) = Ok table
+loaded_into table (Err x) = Err x
+
 -- What n records give: their tree as a table if every question is answered yes, else the first answered no.
 pub record Spelled (e : Format) (n : ℕ) (file : List ℕ) (r : Result Table Refusal) : Type 0 where
   pub answer : r ≡ verdict (first_no (questions_from e file n 0)) (tabled (tree_of e file n))

@@ -1,6 +1,6 @@
 -- A site as an accepted file leaves it.
-use Rattle.std.specs.Prelude.{◌≡◌, ℕ, true, List, is_ok, Some, None, Ok, Err, Result}
-use Rattle.questions.specs.Ask.{FirstNo, first_no, verdict}
+use Rattle.std.specs.Prelude.{◌≡◌, ℕ, true, List, is_ok, Ok, Err, Result}
+use Rattle.questions.specs.Ask.{first_no, verdict}
 use Rattle.terrain.specs.declared.refusal.Refusal.{Refusal}
 use Rattle.water.specs.State.{Standing, State, untouched}
 use Rattle.water.specs.Tree.{Tree, dried}
@@ -38,10 +38,3 @@ accepts = Ok tt
 -- Loading that is refused.
 abbrev pub refuses : Refusal → Result (Unit {0}) Refusal
 refuses refusal = Err refusal
-
--- The same of a whole site: what an accepted file leaves, or the first question answered no.
-abbrev pub SiteRead : List ℕ → Result State Refusal → Type 0
-SiteRead file (Ok site) =
-    (accepts ≡ verdict (first_no (questions file)) tt) × FirstNo (questions file) None × Loaded file site
-SiteRead file (Err refusal) =
-    (refuses refusal ≡ verdict (first_no (questions file)) tt) × FirstNo (questions file) (Some refusal)

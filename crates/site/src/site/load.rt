@@ -1,35 +1,39 @@
 // Loading a terrain file into a site.
-ghost use Rattle.site.specs.Loaded.{Loaded, SiteRead, TableRead};
+ghost use Rattle.site.specs.Building.{Building};
+ghost use Rattle.site.specs.Fill.{loaded_into};
+ghost use Rattle.site.specs.Loaded.{Loaded, TableRead};
 ghost use Rattle.site.specs.Questions.{questions};
-ghost use Rattle.std.specs.Prelude.{◌≡◌, true, false, is_ok};
+ghost use Rattle.std.specs.Prelude.{◌≡◌, ◌-◌, true, false, [], length, is_ok, Ok};
 ghost use Rattle.questions.specs.Ask.{FirstNo, first_no, refusal_in, verdict};
+ghost use Rattle.terrain.specs.Trailer.{tail_of, trailer_of, trailer_questions};
 
 use super::Site;
-use crate::build::build;
-use crate::table::Table;
+use crate::loading::Loading;
+use crate::node::Summary;
+use crate::table::PLACES;
 use byte_order::{Edition1, Edition2};
-use terrain::{EditionName, Reader, Refusal, TRAILER_LEN};
+use terrain::{EditionName, Reader, Refusal, TRAILER_LEN, Trailer};
 
-// The table that a whole file spells, or the first question answered no.
-fn read_table(file: &[u8]) -> Result<Table, Refusal>
-    ensures { TableRead file.now result }
+// Puts the records of a file whose trailer is accepted into the table, up to the first question answered no. The reader is
+// the one that looked at the trailer; `end` is where that starts.
+fn read_table(
+    loading: &mut Loading<'_>,
+    reader: &mut Reader<'_>,
+    trailer: &Trailer,
+    end: usize,
+) -> Result<(), Refusal>
+    requires empty { loading.old.table.count ≡ 0 }
+    requires built { Building loading.old.table loading.old.waiting.items [] }
+    requires accepted { Ok trailer.now ≡ verdict (first_no (trailer_questions (length reader.old.file.now) (tail_of reader.old.file.now))) (trailer_of (length reader.old.file.now) (tail_of reader.old.file.now)) }
+    requires start { reader.old.place.at ≡ 0 }
+    requires close { end ≡ length reader.old.file.now - 12 }
+    ensures { TableRead reader.old.file.now (loaded_into loading.new.table result) }
 {
-    let mut reader = Reader::new(file);
-    let trailer = reader.trailer()?;
-    let end = file.len() - TRAILER_LEN;
     // An arm for each edition, which is a type: no closure and no `dyn` is generic over types.
     match trailer.edition {
-        EditionName::First => build::<Edition1>(&mut reader, &trailer, end),
-        EditionName::Second => build::<Edition2>(&mut reader, &trailer, end),
+        EditionName::First => loading.build::<Edition1>(reader, trailer, end),
+        EditionName::Second => loading.build::<Edition2>(reader, trailer, end),
     }
-}
-
-// The site that a whole file spells, dry, with all sums zero, or the first question answered no.
-fn read_site(file: &[u8]) -> Result<Site, Refusal>
-    ensures { SiteRead file.now result }
-{
-    let table = read_table(file)?;
-    Ok(Site::dry(table))
 }
 
 impl Site {
@@ -40,7 +44,18 @@ impl Site {
         ensures loaded { is_ok result ≡ true → Loaded file.now self.new }
         ensures kept { is_ok result ≡ false → self.new ≡ self.old }
     {
-        *self = read_site(file)?;
+        let mut reader = Reader::new(file);
+        let trailer = reader.trailer()?;
+        let end = file.len() - TRAILER_LEN;
+        let mut slots = [Summary::default(); PLACES];
+        let mut loading = Loading::new(&mut slots);
+        // Lent all the way down: a table is too large to be handed up in a `Result`.
+        read_table(&mut loading, &mut reader, &trailer, end)?;
+        *self = Site {
+            table: loading.table,
+            accepted: 0,
+            pumped: 0,
+        };
         Ok(())
     }
 }

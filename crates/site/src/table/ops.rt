@@ -25,9 +25,9 @@ impl Table {
     pub(crate) fn lone_outlet() -> Table
         ensures { result ≡ tabled (outlet 0 0) }
     {
-        let mut table = Table::unused();
-        table.add(Node::Outlet { water: 0 });
-        table
+        let mut nodes = [Node::Unused; PLACES];
+        nodes[0] = Node::Outlet { water: 0 };
+        Table { nodes, count: 1 }
     }
 
     // Puts a record into the next place.
