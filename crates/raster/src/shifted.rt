@@ -18,8 +18,9 @@ fn shown_from(at: u16, by: i32, count: u16) -> Option<u16>
     ensures { result ≡ source at by count }
 {
     let from = i64::from(at) - i64::from(by);
+    // Two comparisons: by `contains` a deep pile of shifts took longer to run.
     // `as` is proved to lose nothing here; by `u16::try_from` a pile of shifts took twice as long to run.
-    if (0..i64::from(count)).contains(&from) {
+    if 0 <= from && from < i64::from(count) {
         Some(from as u16)
     } else {
         None
@@ -28,15 +29,18 @@ fn shown_from(at: u16, by: i32, count: u16) -> Option<u16>
 
 impl<R: Raster> Shifted<R> {
     // The number that the shift moves to a cell, or 0 where it moves none.
-    fn moved_to(&self, row: u16, col: u16) -> u64
+    // The size is handed on, since a raster below may have to work it out.
+    fn moved_to(&self, size: Size, row: u16, col: u16) -> u64
+        requires rows { size.rows ≡ (R.Raster.meaning self.now.below).rows }
+        requires cols { size.cols ≡ (R.Raster.meaning self.now.below).cols }
         ensures { result
             ≡ (shifted_by self.now.dr self.now.dc (R.Raster.meaning self.now.below)).at row col }
     {
         // Two `let else`: by `zip` and `map_or` a cell took longer to run.
-        let Some(from_row) = shown_from(row, self.dr, self.below.rows()) else {
+        let Some(from_row) = shown_from(row, self.dr, size.rows) else {
             return 0;
         };
-        let Some(from_col) = shown_from(col, self.dc, self.below.cols()) else {
+        let Some(from_col) = shown_from(col, self.dc, size.cols) else {
             return 0;
         };
         self.below.cell(from_row, from_col)
@@ -55,6 +59,7 @@ impl<R: Raster> Raster for Shifted<R> {
     }
 
     fn cell(&self, row: u16, col: u16) -> u64 {
-        Size::of(&self.below).number_at(row, col, || self.moved_to(row, col))
+        let size = Size::of(&self.below);
+        size.number_at(row, col, || self.moved_to(size, row, col))
     }
 }
