@@ -7,6 +7,8 @@ use std::fs;
 use std::io::{BufRead, BufReader, BufWriter, Write};
 
 // Answers every line. Answers go out when no input is at hand, so that whoever waits for one gets it.
+// Not inlined: as a part of `main` the loop over the bytes of a long line took a third longer.
+#[inline(never)]
 fn converse(rt: &HostRuntime, site: &mut Site) -> anyhow::Result<()> {
     let mut input = BufReader::new(rt.alloc(), rt.stdin())?;
     let mut output = BufWriter::new(rt.alloc(), rt.stdout())?;
