@@ -60,10 +60,6 @@ handed name file t reader fe h is r s =
     ap (λ (x : Trailer). x.count) p.1 ∙ ap (λ (k : EditionName). count_of (format_of k) (tail_of file)) ne in
     whole_file name t.count file r ne c p.0 (same_file (format_of name) t.count file reader.file.now r fe s)
 
--- A reader that has looked at the trailer of a file reads that file.
-pub over_file : {r : Result Table Refusal} (file : List ℕ) (new reader : Reader) → new.file.now ≡ file → reader ≡ new → TableRead reader.file.now r → TableRead file r
-over_file {r} file new reader fe unmoved t = subst (λ (f : List ℕ). TableRead f r) (ap (λ (x : Reader). x.file.now) unmoved ∙ fe) t
-
 pub table_refused : (file : List ℕ) (x : Refusal) → TableRead file (Err x) → first_no (questions file) ≡ Some x
 table_refused file x t = verdict_err (first_no (questions file)) x (tabled (tree_in file)) t.answer
 

@@ -3,7 +3,7 @@ ghost use Rattle.site.specs.Building.{Building};
 ghost use Rattle.site.specs.Fill.{loaded_into};
 ghost use Rattle.site.specs.Loaded.{Loaded, TableRead};
 ghost use Rattle.site.specs.Questions.{questions};
-ghost use Rattle.std.specs.Prelude.{◌≡◌, ◌-◌, true, false, [], length, is_ok, Ok};
+ghost use Rattle.std.specs.Prelude.{◌≡◌, true, false, [], length, is_ok, Ok};
 ghost use Rattle.questions.specs.Ask.{FirstNo, first_no, refusal_in, verdict};
 ghost use Rattle.terrain.specs.Trailer.{tail_of, trailer_of, trailer_questions};
 
@@ -15,20 +15,21 @@ use byte_order::{Edition1, Edition2};
 use terrain::{EditionName, Reader, Refusal, TRAILER_LEN, Trailer};
 
 // Puts the records of a file whose trailer is accepted into the table, up to the first question answered no. The reader is
-// the one that looked at the trailer; `end` is where that starts.
+// the one that looked at the trailer.
 fn read_table(
     loading: &mut Loading<'_>,
     reader: &mut Reader<'_>,
+    file: &[u8],
     trailer: &Trailer,
-    end: usize,
 ) -> Result<(), Refusal>
     requires empty { loading.old.table.count ≡ 0 }
     requires built { Building loading.old.table loading.old.waiting.items [] }
-    requires accepted { Ok trailer.now ≡ verdict (first_no (trailer_questions (length reader.old.file.now) (tail_of reader.old.file.now))) (trailer_of (length reader.old.file.now) (tail_of reader.old.file.now)) }
+    requires reads { reader.old.file.now ≡ file.now }
     requires start { reader.old.place.at ≡ 0 }
-    requires close { end ≡ length reader.old.file.now - 12 }
-    ensures { TableRead reader.old.file.now (loaded_into loading.new.table result) }
+    requires accepted { Ok trailer.now ≡ verdict (first_no (trailer_questions (length file.now) (tail_of file.now))) (trailer_of (length file.now) (tail_of file.now)) }
+    ensures { TableRead file.now (loaded_into loading.new.table result) }
 {
+    let end = file.len() - TRAILER_LEN;
     // An arm for each edition, which is a type: no closure and no `dyn` is generic over types.
     match trailer.edition {
         EditionName::First => loading.build::<Edition1>(reader, trailer, end),
@@ -46,11 +47,10 @@ impl Site {
     {
         let mut reader = Reader::new(file);
         let trailer = reader.trailer()?;
-        let end = file.len() - TRAILER_LEN;
         let mut slots = [Summary::default(); PLACES];
         let mut loading = Loading::new(&mut slots);
         // Lent all the way down: a table is too large to be handed up in a `Result`.
-        read_table(&mut loading, &mut reader, &trailer, end)?;
+        read_table(&mut loading, &mut reader, file, &trailer)?;
         *self = Site {
             table: loading.table,
             accepted: 0,

@@ -3,7 +3,7 @@ use Rattle.questions.specs.Ask.{first_no, verdict}
 use Rattle.questions.proofs.Asked.{answer_in_words, refused_with}
 use Rattle.site.specs.Loaded.{accepts}
 use Rattle.site.specs.Questions.{questions}
-use Rattle.site.proofs.Loads.{all_answered, over_file, read_held, refused, site_loaded, table_refused, trailer_refused}
+use Rattle.site.proofs.Loads.{all_answered, read_held, refused, site_loaded, table_refused, trailer_refused}
 use Rattle.site.proofs.site.Site.load.Goals as goal
 
 pub returns-in_err-trailer-clause-answer : goal.returns-in_err-trailer-clause-answer
@@ -18,17 +18,17 @@ returns-in_err-trailer-clause-first_no c =
 pub returns-in_err-read_table-clause-first_no : goal.returns-in_err-read_table-clause-first_no
 returns-in_err-read_table-clause-first_no c =
     answer_in_words (questions c.args.file.now) _ tt
-    (refused c.args.file.now (refused_with c.from_residual-in_err-read_table.ensures.1) (table_refused _ _ (over_file c.args.file.now c.new-reader.result c.trailer.new.self c.new-reader.ensures.file c.in_ok-trailer.ensures.unmoved c.in_err-read_table.ensures)))
+    (refused c.args.file.now (refused_with c.from_residual-in_err-read_table.ensures.1) (table_refused _ _ c.in_err-read_table.ensures))
 
 pub invariant_of-self : goal.invariant_of-self
-invariant_of-self c = read_held c.args.file.now _ (over_file c.args.file.now c.new-reader.result c.trailer.new.self c.new-reader.ensures.file c.in_ok-trailer.ensures.unmoved c.in_ok-read_table.ensures)
+invariant_of-self c = read_held c.args.file.now _ c.in_ok-read_table.ensures
 
 pub returns-clause-first_no : goal.returns-clause-first_no
 returns-clause-first_no c =
     let file = c.args.file.now in
-    let all = all_answered file _ (over_file c.args.file.now c.new-reader.result c.trailer.new.self c.new-reader.ensures.file c.in_ok-trailer.ensures.unmoved c.in_ok-read_table.ensures) in
+    let all = all_answered file _ c.in_ok-read_table.ensures in
     let a : accepts ≡ verdict (first_no (questions file)) tt = cc in
     answer_in_words (questions file) accepts tt a
 
 pub returns-clause-loaded : goal.returns-clause-loaded
-returns-clause-loaded c = λ _. site_loaded c.args.file.now _ (over_file c.args.file.now c.new-reader.result c.trailer.new.self c.new-reader.ensures.file c.in_ok-trailer.ensures.unmoved c.in_ok-read_table.ensures)
+returns-clause-loaded c = λ _. site_loaded c.args.file.now _ c.in_ok-read_table.ensures
